@@ -1,0 +1,26 @@
+-- What the contracts cite.
+pub mod Choice
+pub mod Refusal
+pub mod Words
+pub mod Ram
+pub mod Instruction
+pub mod Machine
+pub mod Effect
+pub mod Stack
+pub mod Control
+pub mod Memory
+pub mod Hashing
+pub mod Arithmetic
+pub mod Bits
+pub mod Bitwise
+pub mod InputOutput
+pub mod ManyInOne
+pub mod Decide
+pub mod Apply
+pub mod Bytes
+pub mod Records
+pub mod PlaceA
+pub mod Open
+pub mod Step
+pub mod HelperVariables
+pub mod Sound

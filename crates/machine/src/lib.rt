@@ -1,0 +1,2 @@
+// The machine: its instructions, its calls and their records.
+pub mod vm;
