@@ -1,3 +1,4 @@
+-- `field::base::mod_pow` meets its contract: at each turn acc * b ^ k is base ^ exponent. Assumes nothing.
 use mathlib.Core.Logic.{⊎-elim}
 use native.Mathlib.Nat.{one-mul}
 use lib.Dec.{lit<}

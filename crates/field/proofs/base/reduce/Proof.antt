@@ -1,4 +1,4 @@
--- `field::reduce` meets its contract. Assumes nothing.
+-- `field::base::reduce` meets its contract. Assumes nothing.
 use mathlib.Core.Path.{_≡_}
 use mathlib.Core.Logic.{⊎-elim}
 use Prim.Native.Nat.{ℕ, _+_, _*_, _/_, _^_}
