@@ -1,7 +1,7 @@
 -- The product modulo X^3 - X + 1 and modulo w + 1, with w for -1, so that no difference stands in it. Assumes nothing.
 use mathlib.Core.Path.{_≡_, refl, sym, ap, _∙_}
 use Prim.Native.Nat.{ℕ, suc, _+_, _*_, _%_}
-use native.Mathlib.Nat.{add-mul, mul-add, mul-left-comm, add-assoc, add-comm, add-left-comm, mul-assoc, mul-comm, zero-mod, mod-add-mod, add-mod-mod}
+use native.Mathlib.Nat.{add-mul, mul-add, mul-left-comm, add-assoc, add-comm, add-left-comm, mul-assoc, mul-comm, mod-add-mod, add-mod-mod}
 use native.Mathlib.Omega.{arith}
 use Rattle.field.specs.declared.extension.XFieldElement.{XFieldElement}
 use Rattle.field.specs.Extension.{xfe}

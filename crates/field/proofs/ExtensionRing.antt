@@ -1,11 +1,11 @@
 -- The extension words are a commutative ring. Each law holds of any coefficients, but where an extension word stands alone on one side. Assumes nothing.
 use mathlib.Core.Path.{_≡_, refl, sym, ap, _∙_}
-use Prim.Native.Nat.{ℕ, _+_, _*_, _%_, _<_}
+use Prim.Native.Nat.{ℕ, _<_}
 use native.Mathlib.Nat.{mod-eq-of-lt, zero-mul, one-mul, mul-zero}
 use lib.Dec.{lit<}
 use Rattle.field.specs.declared.extension.XFieldElement.{XFieldElement}
 use Rattle.field.specs.Base.{p, addP, mulP}
-use Rattle.field.specs.Extension.{xfe, WordsX, liftX, addX, negX, subX, mulX, scaleX}
+use Rattle.field.specs.Extension.{WordsX, liftX, addX, negX, subX, mulX, scaleX}
 use Rattle.field.proofs.Remainder.{same-mod}
 use Rattle.field.proofs.Ring.{below, minusOne, sub-strip, neg-strip, addP-comm, addP-assoc, addP-zero, addP-negP, subP-negP}
 use Rattle.field.proofs.CubicProduct.{xfe-path, times, plain, reduced, plus, times-comm, times-assoc, times-plus, times-lift}

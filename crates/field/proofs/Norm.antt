@@ -1,7 +1,7 @@
--- The norm of a + b X + c X^2 modulo X^3 - X + 1 and modulo a prime w + 1 is 0 only for 0, if the cubic has no root. Assumes nothing.
+-- The norm of a + b X + c X^2 modulo X^3 - X + 1 and modulo a prime w + 1, with w for -1, is 0 only for 0, if the cubic has no root. Assumes nothing.
 use mathlib.Core.Path.{_≡_, refl, sym, ap, _∙_}
 use mathlib.Core.Logic.{_≢_}
-use Prim.Native.Nat.{ℕ, zero, suc, _+_, _*_, _-_, _/_, _%_, _<_}
+use Prim.Native.Nat.{ℕ, suc, _+_, _*_, _%_, _<_}
 use native.Mathlib.Nat.{mod-eq-of-lt, mul-assoc, mul-one, zero-add, mod-add-mod, add-mul-mod-self-right}
 use native.Mathlib.Decide.{ℕ-discrete}
 use native.Mathlib.Omega.{arith}
@@ -98,24 +98,21 @@ rem₁ w a b c = b * b + w * (a * c + c * c)
 abbrev pub cof : ℕ → ℕ → ℕ → ℕ → ℕ
 cof w a b c = a * a + 2 * (a * c) + c * c + b * c + w * (b * b)
 
-same : (w x y i j : ℕ) → x + i * suc w ≡ y + j * suc w → x % suc w ≡ y % suc w
-same w x y i j e = same-by (suc w) x y i j e
-
 pub norm-row : (w a b c : ℕ) → norm w a b c % suc w ≡ (a * cof w a b c + c * rem₀ a b c + w * (b * rem₁ w a b c)) % suc w
-norm-row w a b c = same w _ _ (w * (a * b * c + b * c * c)) (a * b * c + b * c * c) (omega arith)
+norm-row w a b c = same-by (suc w) _ _ (w * (a * b * c + b * c * c)) (a * b * c + b * c * c) (omega arith)
 
 pub second-row : (w a b c : ℕ) → (b * cof w a b c) % suc w ≡ ((a + c) * rem₀ a b c + c * rem₁ w a b c + w * (b * rem₁ w a b c)) % suc w
-second-row w a b c = same w _ _ (a * c * c + c * c * c + w * (a * b * c + b * c * c)) (a * b * c + b * c * c) (omega arith)
+second-row w a b c = same-by (suc w) _ _ (a * c * c + c * c * c + w * (a * b * c + b * c * c)) (a * b * c + b * c * c) (omega arith)
 
 pub third-row : (w a b c : ℕ) → (c * cof w a b c) % suc w ≡ (b * rem₀ a b c + w * ((a + c) * rem₁ w a b c)) % suc w
-third-row w a b c = same w _ _ (a * b * b + w * (a * a * c + 2 * (a * c * c) + c * c * c)) (a * a * c + 2 * (a * c * c) + c * c * c) (omega arith)
+third-row w a b c = same-by (suc w) _ _ (a * b * b + w * (a * a * c + 2 * (a * c * c) + c * c * c)) (a * a * c + 2 * (a * c * c) + c * c * c) (omega arith)
 
 -- from here x stands for rem₀, y for rem₁ and k for cof
 spread : (b c x y k : ℕ) → (c * x + b * y) * k ≡ x * (c * k) + y * (b * k)
 spread b c x y k = omega arith
 
 crossed : (w a b c x y : ℕ) → (x * (b * x + w * ((a + c) * y)) + y * ((a + c) * x + c * y + w * (b * y))) % suc w ≡ (b * (x * x) + c * (y * y) + w * (b * (y * y))) % suc w
-crossed w a b c x y = same w _ _ 0 ((a + c) * (x * y)) (omega arith)
+crossed w a b c x y = same-by (suc w) _ _ 0 ((a + c) * (x * y)) (omega arith)
 
 spread₂ : (w a b c x y k : ℕ) → (c * x + b * y) * (a * k + c * x + w * (b * y)) ≡ a * ((c * x + b * y) * k) + (c * x + b * y) * (c * x + w * (b * y))
 spread₂ w a b c x y k = omega arith
@@ -123,13 +120,13 @@ spread₂ w a b c x y k = omega arith
 crossed₂ : (w a b c x y : ℕ)
     → (a * (b * (x * x) + c * (y * y) + w * (b * (y * y))) + (c * x + b * y) * (c * x + w * (b * y))) % suc w
     ≡ ((a * b + c * c) * (x * x) + (a * c + w * (a * b + b * b)) * (y * y)) % suc w
-crossed₂ w a b c x y = same w _ _ 0 (b * c * (x * y)) (omega arith)
+crossed₂ w a b c x y = same-by (suc w) _ _ 0 (b * c * (x * y)) (omega arith)
 
 row-sum : (w a b c : ℕ) → (a * c + w * (a * b + b * b)) % suc w ≡ (w * (rem₀ a b c + rem₁ w a b c)) % suc w
-row-sum w a b c = same w _ _ (w * (c * c) + w * (a * c)) (a * c) (omega arith)
+row-sum w a b c = same-by (suc w) _ _ (w * (c * c) + w * (a * c)) (a * c) (omega arith)
 
 turned : (w x y : ℕ) → form w (w * x) y % suc w ≡ (w * (x * (x * x) + w * (x + y) * (y * y))) % suc w
-turned w x y = same w _ _ (w * (x * x * x) + w * (y * y * y)) (w * w * (x * x * x) + y * y * y) (omega arith)
+turned w x y = same-by (suc w) _ _ (w * (x * x * x) + w * (y * y * y)) (w * w * (x * x * x) + y * y * y) (omega arith)
 
 module _ (w a b c x y k n : ℕ)
     (row₀ : n % suc w ≡ (a * k + c * x + w * (b * y)) % suc w)
@@ -163,10 +160,10 @@ form-norm w a b c =
     (mul-cong (suc w) (a * c + w * (a * b + b * b)) (rem₁ w a b c * rem₁ w a b c) (w * (rem₀ a b c + rem₁ w a b c)) (rem₁ w a b c * rem₁ w a b c) (row-sum w a b c) refl)))
 
 unsign : (w x : ℕ) → (w * x) % suc w ≡ 0 → x % suc w ≡ 0
-unsign w x e = same w x (w * (w * x)) (w * x) x (omega arith) ∙ zero-times (suc w) w (w * x) e
+unsign w x e = same-by (suc w) x (w * (w * x)) (w * x) x (omega arith) ∙ zero-times (suc w) w (w * x) e
 
 form-rows : (w a b c : ℕ) → form w b c % suc w ≡ (b * rem₁ w a b c + c * rem₀ a b c) % suc w
-form-rows w a b c = same w _ _ (a * b * c) 0 (omega arith)
+form-rows w a b c = same-by (suc w) _ _ (a * b * c) 0 (omega arith)
 
 norm-split : (w a b c : ℕ) → norm w a b c ≡ a * a * a + ((2 * (a * a) + a * c + 3 * (a * b) + c * c + b * c) * c + w * (a * b + b * b) * b)
 norm-split w a b c = omega arith

@@ -78,6 +78,7 @@ fn of_numbers(a: u64, b: u64) {
     line2(b"reduce ", a, b, base::reduce(a, b));
 }
 
+// One loop for the pairs, whose first turns take each word alone too.
 fn words() {
     let mut i: u64 = 0;
     while i < 64 {

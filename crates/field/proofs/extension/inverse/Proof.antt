@@ -1,6 +1,6 @@
 -- `field::extension::inverse` meets its contract, by the law of the inverse. Assumes nothing.
 use borrow.Author.Needs.{needs}
-use mathlib.Core.Path.{_≡_, ap, _∙_}
+use mathlib.Core.Path.{ap, _∙_}
 use Rattle.field.specs.Extension.{mulX}
 use Rattle.field.proofs.ExtensionInverse.{inverseX-some}
 use Rattle.field.proofs.extension.inverse.Statement.{statement}
