@@ -36,7 +36,7 @@ xst w i = xfe (st w i) (st w (i + 1)) (st w (i + 2))
 abbrev pub wordsX : XFieldElement → List ℕ
 wordsX x = x .c2 ∷ x .c1 ∷ x .c0 ∷ []
 
-abbrev pub zeroX : XFieldElement → Bool
+unfoldable pub zeroX : XFieldElement → Bool
 zeroX x = cond (eqb (x .c0) 0) (cond (eqb (x .c1) 0) (eqb (x .c2) 0) false) false
 
 unfoldable pub xxAddOf : List ℕ → Decision

@@ -6,6 +6,7 @@ pub mod Ram
 pub mod Instruction
 pub mod Machine
 pub mod Effect
+pub mod EffectView
 pub mod Stack
 pub mod Control
 pub mod Memory

@@ -1,5 +1,7 @@
 -- Refusals: document 01's number and the three words that a refusal carries.
 use Prim.Native.Nat.{ℕ}
+use Rattle.machine.specs.declared.refusal.InstructionError.{InstructionError}
+use Rattle.machine.specs.declared.refusal.InstructionError.the-variants as E
 
 pub record Refusal : Type 0 where
   pub number : ℕ
@@ -64,3 +66,31 @@ logarithmOfZero = plainly 22
 
 abbrev pub spongeNotInitialized : Refusal
 spongeNotInitialized = plainly 23
+
+-- ---- the code's names
+
+unfoldable pub refusalOf : InstructionError → Refusal
+refusalOf E.BadShape = plainly 1
+refusalOf E.NotAWord = plainly 2
+refusalOf E.UnknownOpcode = plainly 3
+refusalOf E.BadArgument = plainly 4
+refusalOf E.BadState = plainly 5
+refusalOf E.MachineHalted = machineHalted
+refusalOf E.InstructionPointerOverflow = instructionPointerOverflow
+refusalOf E.OpStackTooShallow = opStackTooShallow
+refusalOf (E.FailedU32Conversion w) = failedU32Conversion w
+refusalOf (E.EmptyPublicInput n) = emptyPublicInput n
+refusalOf (E.EmptySecretInput n) = emptySecretInput n
+refusalOf E.EmptySecretDigestInput = emptySecretDigestInput
+refusalOf E.JumpStackIsEmpty = jumpStackIsEmpty
+refusalOf (E.AssertionFailed actual) = assertionFailed actual
+refusalOf (E.VectorAssertionFailed i expected actual) = vectorAssertionFailed i expected actual
+refusalOf E.InverseOfZero = inverseOfZero
+refusalOf E.DivisionByZero = divisionByZero
+refusalOf E.LogarithmOfZero = logarithmOfZero
+refusalOf E.SpongeNotInitialized = spongeNotInitialized
+refusalOf E.OpStackFull = plainly 30
+refusalOf E.JumpStackFull = plainly 31
+refusalOf E.RamFull = plainly 32
+refusalOf E.OutputFull = plainly 33
+refusalOf E.ClockAtEnd = plainly 34

@@ -1,2 +1,5 @@
 // The machine: its instructions, its calls and their records.
+pub mod arithmetic;
+pub mod effect;
+pub mod refusal;
 pub mod vm;
