@@ -6,3 +6,5 @@ pub mod Touched
 pub mod OpStack
 pub mod Bytes
 pub mod Records
+pub mod Preserved
+pub mod PlaceA
