@@ -1,3 +1,10 @@
 -- The laws that the proofs cite.
 pub mod Choice
 pub mod Words
+pub mod Ram
+pub mod Touched
+pub mod OpStack
+pub mod Bytes
+pub mod Records
+pub mod Preserved
+pub mod PlaceA
