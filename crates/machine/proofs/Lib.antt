@@ -1,7 +1,8 @@
 -- The laws that the proofs cite.
 pub mod Choice
 pub mod Words
-pub mod Ram
+pub mod RamLaws
+pub mod RamView
 pub mod Touched
 pub mod OpStack
 pub mod Bytes

@@ -9,7 +9,7 @@ use Rattle.machine.specs.Ram.{Cells, held, stored, Alike}
 use Rattle.machine.specs.Effect.{Call, reset, tip5, u32, ramRead, ramWrite}
 use Rattle.machine.specs.Apply.{touched, wroteOf}
 use Rattle.machine.specs.Sound.{SoundCells, Honest}
-use Rattle.machine.proofs.Ram.{stored-more, stored-addresses, stored-values, stored-words, stored-addresses-words, stored-once, held-stored, alike-stored}
+use Rattle.machine.proofs.RamLaws.{stored-more, stored-addresses, stored-values, stored-words, stored-addresses-words, stored-once, held-stored, alike-stored}
 
 pub touched-more : (cs : List Call) (c : Cells) → c .count ≤ touched c cs .count
 unfolding touched

@@ -3,6 +3,7 @@ pub mod Choice
 pub mod Refusal
 pub mod Words
 pub mod Ram
+pub mod RamView
 pub mod Instruction
 pub mod Machine
 pub mod Effect

@@ -1,5 +1,6 @@
 // The machine: its instructions, its calls and their records.
 pub mod arithmetic;
 pub mod effect;
+pub mod ram;
 pub mod refusal;
 pub mod vm;
