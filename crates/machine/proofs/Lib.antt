@@ -3,6 +3,7 @@ pub mod Choice
 pub mod Words
 pub mod RamLaws
 pub mod RamView
+pub mod Copies
 pub mod Touched
 pub mod OpStack
 pub mod Bytes

@@ -19,6 +19,7 @@ pub mod InputOutput
 pub mod ManyInOne
 pub mod Decide
 pub mod Apply
+pub mod Copied
 pub mod Bytes
 pub mod Records
 pub mod PlaceA
