@@ -30,8 +30,8 @@ parts w a (suc m) P h =
     ∙ drop-term (suc w) (part a (suc w) m) (choose (suc w) (suc m)) (a ^ suc m) 1 (parts w a m P (omega arith)) (middle w m P (omega arith))
 
 -- (a + 1) ^ q is 1 + a ^ q
-freshman : (w a : ℕ) → Prime (suc w) → (suc a ^ suc w) % suc w ≡ (1 + a ^ suc w) % suc w
-freshman w a P =
+sum-power : (w a : ℕ) → Prime (suc w) → (suc a ^ suc w) % suc w ≡ (1 + a ^ suc w) % suc w
+sum-power w a P =
     ap (λ (z : ℕ). z % suc w)
     (sym (binomial a (suc w)) ∙ part-suc a (suc w) w ∙ ap (λ (z : ℕ). part a (suc w) w + z * a ^ suc w) (choose-all (suc w)) ∙ ap (λ (z : ℕ). part a (suc w) w + z) (one-mul (a ^ suc w)))
     ∙ sym (mod-add-mod (part a (suc w) w) (suc w) (a ^ suc w))
@@ -41,7 +41,7 @@ freshman w a P =
 pub fermat : (w a : ℕ) → Prime (suc w) → (a ^ suc w) % suc w ≡ a % suc w
 fermat w zero P = ap (λ (z : ℕ). z % suc w) (pow-suc 0 w ∙ mul-zero (0 ^ w))
 fermat w (suc a) P =
-    freshman w a P
+    sum-power w a P
     ∙ sym (add-mod-mod 1 (a ^ suc w) (suc w))
     ∙ ap (λ (z : ℕ). (1 + z) % suc w) (fermat w a P)
     ∙ add-mod-mod 1 a (suc w)

@@ -1,7 +1,7 @@
 -- A word other than 0 times its inverse is 1, and no other word is its inverse. Assumes nothing.
 use mathlib.Core.Path.{_≡_, refl, sym, ap, _∙_}
 use mathlib.Core.Logic.{_≢_}
-use Prim.Native.Nat.{ℕ, zero, suc, _+_, _*_, _-_, _%_, _^_, _<_}
+use Prim.Native.Nat.{ℕ, suc, _*_, _%_, _^_, _<_}
 use native.Mathlib.Nat.{mod-eq-of-lt, mod-mod, pow-suc, mul-comm, mul-one, mul-zero, zero-mul}
 use native.Mathlib.Omega.{arith}
 use lib.Dec.{lit<}

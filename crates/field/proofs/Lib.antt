@@ -1,4 +1,4 @@
--- The laws of words and extension words. Crates above cite Ring, Inverse and their like for extension words; the rest is what they stand on.
+-- The laws of words and extension words. Crates above cite Ring, Inverse, ExtensionRing and ExtensionInverse; the rest is what they stand on.
 pub mod Remainder
 pub mod Reduction
 pub mod Ring
@@ -9,3 +9,9 @@ pub mod Proth
 pub mod Modulus
 pub mod Inverse
 pub mod Power
+pub mod CubicProduct
+pub mod Coefficients
+pub mod ExtensionRing
+pub mod Cubic
+pub mod Norm
+pub mod ExtensionInverse

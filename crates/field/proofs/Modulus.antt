@@ -1,7 +1,7 @@
 -- p = 2^64 - 2^32 + 1 is prime, and what follows for powers and products of words. Assumes nothing.
 use mathlib.Core.Path.{_≡_, refl}
 use mathlib.Core.Logic.{_≢_}
-use Prim.Native.Nat.{ℕ, _-_, _%_, _<_}
+use Prim.Native.Nat.{ℕ, _-_, _%_}
 use lib.Dec.{lit<}
 use Rattle.field.specs.Base.{p, mulP, powP}
 use Rattle.field.proofs.Prime.{Prime, euclid}

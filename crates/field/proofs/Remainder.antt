@@ -1,7 +1,7 @@
 -- Remainders of sums, products and powers, by any m. Assumes nothing.
 use mathlib.Core.Path.{_≡_, refl, sym, ap, _∙_}
 use Prim.Native.Nat.{ℕ, zero, suc, _+_, _*_, _/_, _%_, _^_, _<_}
-use native.Mathlib.Nat.{mul-comm, mul-one, one-mul, div-add-mod', add-mul-mod-self-right, pow-zero, pow-suc, mod-mod, mod-eq-of-lt, mod-add-mod, add-mod-mod}
+use native.Mathlib.Nat.{mul-comm, mul-one, one-mul, mul-zero, add-zero, zero-add, zero-mod, div-add-mod', add-mul-mod-self-right, pow-zero, pow-suc, mod-mod, mod-eq-of-lt, mod-add-mod, add-mod-mod}
 use native.Mathlib.Omega.{arith}
 use lib.Pow.{pow-add}
 
@@ -86,3 +86,22 @@ apart m x y e = omega (arith, div-add-mod' x m, div-add-mod' y m)
 
 pub add-cong : (m a b x y : ℕ) → a % m ≡ x % m → b % m ≡ y % m → (a + b) % m ≡ (x + y) % m
 add-cong m a b x y e f = sym (mod-add-mod a m b) ∙ sym (add-mod-mod (a % m) b m) ∙ (λ i. (e i + f i) % m) ∙ add-mod-mod (x % m) y m ∙ mod-add-mod x m y
+
+-- a sum of three products with remainders
+pub linear : (m i j k x y z : ℕ) → (i * (x % m) + j * (y % m) + k * (z % m)) % m ≡ (i * x + j * y + k * z) % m
+linear m i j k x y z =
+    add-cong m (i * (x % m) + j * (y % m)) (k * (z % m)) (i * x + j * y) (k * z)
+    (add-cong m (i * (x % m)) (j * (y % m)) (i * x) (j * y) (mul-mod-mod i x m) (mul-mod-mod j y m))
+    (mul-mod-mod k z m)
+
+-- ---- numbers that are 0 modulo m
+
+pub zero-times : (m k x : ℕ) → x % m ≡ 0 → (k * x) % m ≡ 0
+zero-times m k x e = sym (mul-mod-mod k x m) ∙ ap (λ (z : ℕ). (k * z) % m) e ∙ same-mod m _ _ (mul-zero k) ∙ zero-mod m
+
+pub zero-plus : (m x y : ℕ) → x % m ≡ 0 → y % m ≡ 0 → (x + y) % m ≡ 0
+zero-plus m x y e f = sym (mod-add-mod x m y) ∙ ap (λ (z : ℕ). (z + y) % m) e ∙ same-mod m _ _ (zero-add y) ∙ f
+
+-- what is left when y is 0
+pub zero-rest : (m x y : ℕ) → (x + y) % m ≡ 0 → y % m ≡ 0 → x % m ≡ 0
+zero-rest m x y e f = same-mod m _ _ (sym (add-zero x)) ∙ ap (λ (z : ℕ). (x + z) % m) (sym f) ∙ add-mod-mod x y m ∙ e

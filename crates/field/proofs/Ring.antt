@@ -1,7 +1,7 @@
 -- The words are a commutative ring. Each law holds of any numbers, but where a word stands alone on one side. Assumes nothing.
-use mathlib.Core.Path.{_≡_, refl, sym, ap, _∙_}
+use mathlib.Core.Path.{_≡_, sym, ap, _∙_}
 use Prim.Native.Nat.{ℕ, _+_, _*_, _-_, _%_, _<_, _≤_}
-use native.Mathlib.Nat.{mod-eq-of-lt, mod-lt, zero-add, add-comm, mul-comm, add-mod-mod}
+use native.Mathlib.Nat.{mod-lt, zero-add, add-comm, mul-comm, add-mod-mod}
 use native.Mathlib.Omega.{arith}
 use lib.Dec.{lit<}
 use Rattle.field.specs.Base.{p, addP, subP, negP, mulP}

@@ -54,6 +54,6 @@ unfoldable pub normX : XFieldElement → ℕ
 unfolding mulX adjugateX
 normX x = mulX x (adjugateX x) .c0
 
--- The adjugate over the norm, and 0 for 0. That a word other than 0 times it is 1, and no other word is, are laws (proofs/ExtensionInverse.antt).
+-- The adjugate over the norm, and 0 for 0. That an extension word other than 0 times it is 1, and times no other is, are laws (proofs/ExtensionInverse.antt).
 unfoldable pub inverseX : XFieldElement → XFieldElement
 inverseX x = scaleX (inverseP (normX x)) (adjugateX x)

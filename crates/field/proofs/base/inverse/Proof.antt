@@ -1,6 +1,6 @@
 -- `field::base::inverse` meets its contract, by the law of the inverse. Assumes nothing.
 use borrow.Author.Needs.{needs}
-use mathlib.Core.Path.{_≡_, ap, _∙_}
+use mathlib.Core.Path.{ap, _∙_}
 use Prim.Native.Nat.{ℕ}
 use Rattle.field.specs.Base.{mulP}
 use Rattle.field.proofs.Inverse.{inverseP-word}

@@ -1,13 +1,13 @@
+-- `field::base::mod_pow` meets its contract: at each turn acc * b ^ k is base ^ exponent. Assumes nothing.
 use mathlib.Core.Logic.{⊎-elim}
 use native.Mathlib.Nat.{one-mul}
 use lib.Dec.{lit<}
 use Rattle.field.proofs.Remainder.{odd-step, even-step, last-step}
 use borrow.Author.Needs.{needs}
 use Rattle.field.specs.Base.{p}
-use Prim.Native.Nat.{ℕ, _+_, _*_, _-_, _/_, _%_, _^_, _<_, _≤_}
+use Prim.Native.Nat.{ℕ, _*_, _%_, _^_, _<_}
 use native.Mathlib.Omega.{arith}
-use mathlib.Core.Path.{_≡_, refl, sym, ap, _∙_}
-use lib.ListN.{length}
+use mathlib.Core.Path.{_≡_, ap, _∙_}
 use Rattle.field.proofs.base.mod_pow.Statement.{statement}
 use Rattle.field.proofs.base.mod_pow.Tie as tie
 

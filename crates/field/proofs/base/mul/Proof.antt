@@ -1,4 +1,5 @@
-use mathlib.Core.Path.{_≡_, _∙_, ap}
+-- `field::base::mul` meets its contract: the two halves of the product, reduced. Assumes nothing.
+use mathlib.Core.Path.{_∙_, ap}
 use Prim.Native.Nat.{ℕ, _+_, _*_, _^_, _%_}
 use native.Mathlib.Nat.{div-add-mod'}
 use Rattle.field.specs.Base.{p}

@@ -1,4 +1,4 @@
--- `field::mul_hi` meets its contract. Assumes nothing.
+-- `field::base::mul_hi` meets its contract. Assumes nothing.
 use native.Mathlib.Omega.{arith}
 use Rattle.field.proofs.Reduction.{Halves, halves, upper-is}
 use Rattle.field.proofs.base.mul_hi.Statement.{statement}

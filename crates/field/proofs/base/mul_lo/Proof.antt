@@ -1,4 +1,4 @@
--- `field::mul_lo` meets its contract. Assumes nothing.
+-- `field::base::mul_lo` meets its contract. Assumes nothing.
 use native.Mathlib.Omega.{arith}
 use Rattle.field.proofs.Reduction.{Halves, halves, lower-is}
 use Rattle.field.proofs.base.mul_lo.Statement.{statement}

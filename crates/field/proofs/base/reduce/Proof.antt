@@ -1,7 +1,5 @@
--- `field::reduce` meets its contract. Assumes nothing.
-use mathlib.Core.Path.{_≡_}
+-- `field::base::reduce` meets its contract. Assumes nothing.
 use mathlib.Core.Logic.{⊎-elim}
-use Prim.Native.Nat.{ℕ, _+_, _*_, _/_, _^_}
 use native.Mathlib.Omega.{arith}
 use Rattle.field.specs.Base.{p}
 use Rattle.field.proofs.Reduction.{sum-is, difference-is, borrowed, over}
