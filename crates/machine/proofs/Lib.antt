@@ -14,3 +14,4 @@ pub mod FactsBitwise
 pub mod FactsHashing
 pub mod FactsManyInOne
 pub mod Facts
+pub mod StepBytes

@@ -8,7 +8,7 @@ use borrow.Author.Tests.{eqb-true, eqb-false, ltb-false}
 use lib.ListN.{getD}
 use lib.Dec.{eqb, ltb}
 use Rattle.machine.specs.Choice.{cond}
-use Rattle.machine.specs.Instruction.{Row, Argument, words, place-of-stack, slotsOf, table, Decoded, known, unknown, decodeIn, decode, sizeIn, sizeOf, argumentFault}
+use Rattle.machine.specs.Instruction.{Row, Argument, nothing, words, place-of-stack, slotsOf, table, Decoded, known, unknown, decodeIn, decode, sizeIn, sizeOf, argumentFault}
 use Rattle.machine.specs.PlaceA.{argument4, arguments4}
 use Rattle.machine.proofs.Choice.{first-nil}
 
@@ -46,6 +46,13 @@ unfolding sizeOf
 size-small op = size-in (decode op)
 
 -- ---- arguments
+
+pub nothing-allowed : (n : ℕ) → argumentFault nothing n ≡ 0 → n ≡ 0
+nothing-allowed n h = go (eqb n 0) refl h
+  where
+    go : (t : Bool) → eqb n 0 ≡ t → _≡_ {A = ℕ} (cond t 0 4) 0 → n ≡ 0
+    go true e z = eqb-true n 0 e
+    go false e z = absurd (omega arith)
 
 pub words-allowed : (n : ℕ) → argumentFault words n ≡ 0 → n ≤ 5
 words-allowed n h = go (ltb n 1) (ltb 5 n) refl h
