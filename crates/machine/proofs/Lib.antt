@@ -15,3 +15,4 @@ pub mod FactsHashing
 pub mod FactsManyInOne
 pub mod Facts
 pub mod StepBytes
+pub mod ProvedTable
