@@ -27,3 +27,4 @@ pub mod Open
 pub mod Step
 pub mod HelperVariables
 pub mod Sound
+pub mod ProvedTable
