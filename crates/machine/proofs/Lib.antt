@@ -8,3 +8,4 @@ pub mod Bytes
 pub mod Records
 pub mod Preserved
 pub mod PlaceA
+pub mod Step
