@@ -9,3 +9,4 @@ pub mod Records
 pub mod Preserved
 pub mod PlaceA
 pub mod Step
+pub mod Run

@@ -7,3 +7,4 @@ pub mod Calls
 pub mod Alter
 pub mod Bytes
 pub mod Demand3
+pub mod Job
