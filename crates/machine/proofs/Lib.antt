@@ -25,3 +25,5 @@ pub mod FactsManyInOne
 pub mod Facts
 pub mod StepBytes
 pub mod ProvedTable
+pub mod Step
+pub mod Run

@@ -2,7 +2,7 @@
 use Prim.Native.Nat.{ℕ, zero, suc, _+_, _<_}
 use mathlib.Core.List.{List, [], _∷_}
 use lib.ListN.{getD}
-use Rattle.field.specs.Base.{p}
+pub use Rattle.field.specs.Base.{p}
 use Rattle.machine.specs.Choice.{firstOf, aboveOf}
 
 -- a list of words: each element is below p
