@@ -8,7 +8,7 @@ use native.Mathlib.Numerals.{add-one}
 use native.Mathlib.Omega.{arith}
 use borrow.Author.Tests.{ltb-true, ltb-false}
 use lib.Dec.{ltb}
-use lib.ListN.{length, take, drop, getD, set, length-append, length-take, length-drop, List·getD-append}
+use lib.ListN.{replicate, length, take, drop, getD, set, length-append, length-take, length-drop, List·getD-append}
 use lib.Seq.{take-suc-set, take-all, getD-at, getD-take, getD-drop, ext-getD}
 use Rattle.tip5.specs.Tab.{tab, tab-zero, tab-suc}
 
@@ -53,12 +53,23 @@ tab-part l k n h =
     (simp (length-take, length-drop) (omega arith))
     (λ (j : ℕ) (g : j < n). getD-take n (drop k l) j 0 g ∙ getD-drop k l j 0)
 
+pub zeros-at : (n k : ℕ) → _≡_ {A = ℕ} (getD (replicate n 0) k 0) 0
+zeros-at zero k = refl
+zeros-at (suc n) zero = refl
+zeros-at (suc n) (suc k) = zeros-at n k
+
 -- ---- elements below a bound; what stands past a list's end is 0
 
 pub append-below : (l m : List ℕ) (b : ℕ) → ((k : ℕ) → getD l k 0 < b) → ((k : ℕ) → getD m k 0 < b) → (k : ℕ) → getD (l ++ m) k 0 < b
 append-below [] m b h g k = g k
 append-below (x ∷ l) m b h g zero = h 0
 append-below (x ∷ l) m b h g (suc k) = append-below l m b (λ (j : ℕ). h (suc j)) g k
+
+pub take-below : (n : ℕ) (l : List ℕ) (b : ℕ) → 0 < b → ((k : ℕ) → getD l k 0 < b) → (k : ℕ) → getD (take n l) k 0 < b
+take-below zero l b z h k = z
+take-below (suc n) [] b z h k = z
+take-below (suc n) (x ∷ l) b z h zero = h 0
+take-below (suc n) (x ∷ l) b z h (suc k) = take-below n l b z (λ (j : ℕ). h (suc j)) k
 
 one-below : (a b : ℕ) → 0 < b → a < b → (k : ℕ) → getD (a ∷ []) k 0 < b
 one-below a b z h zero = h

@@ -1,16 +1,21 @@
 -- Hashing: the padded input and its blocks. Assumes nothing.
 use mathlib.Core.List.{List, _∷_, _++_}
 use mathlib.Core.Path.{_≡_, refl, sym, ap, _∙_}
-use Prim.Native.Nat.{ℕ, zero, suc, _+_, _*_, _-_, _/_, _%_, _<_, _≤_}
+use Prim.Native.Nat.{ℕ, suc, _+_, _*_, _-_, _/_, _%_, _<_, _≤_}
 use native.Mathlib.Numerals.{add-one}
 use native.Mathlib.Omega.{arith}
-use lib.ListN.{length, getD, replicate, length-append, length-replicate, List·getD-append}
+use lib.Dec.{lit<}
+use lib.ListN.{length, drop, getD, replicate, length-append, length-replicate, List·getD-append}
 use lib.Seq.{getD-at, getD-append-add}
-use Rattle.tip5.specs.Hash.{paddedOf, blockOf, absorbed}
+use Rattle.field.specs.Base.{p}
+use Rattle.tip5.specs.Hash.{hash10Of, paddedOf, blockOf, absorbed, hashVarlenOf}
+use Rattle.tip5.specs.Permutation.{permutationOf}
 use Rattle.tip5.specs.Sponge.{newOf, absorbOf}
 use Rattle.tip5.specs.Tab.{tab}
+use Rattle.tip5.specs.Words.{Words}
 use Rattle.tip5.specs.declared.sponge.Domain.the-variants.{VariableLength}
-use Rattle.tip5.proofs.Tab.{tab-part}
+use Rattle.tip5.proofs.Tab.{tab-part, take-below, zeros-at}
+use Rattle.tip5.proofs.permutation.Laws.{permutation-words}
 
 pub padded-before : (xs : List ℕ) (k : ℕ) → k < length xs → getD xs k 0 ≡ getD (paddedOf xs) k 0
 unfolding paddedOf
@@ -20,13 +25,8 @@ pub padded-one : (xs : List ℕ) (k : ℕ) → k ≡ length xs → 1 ≡ getD (p
 unfolding paddedOf
 padded-one xs k h = sym (getD-at xs 1 _ 0 k (sym h))
 
-zeros : (n k : ℕ) → _≡_ {A = ℕ} (getD (replicate n 0) k 0) 0
-zeros zero k = refl
-zeros (suc n) zero = refl
-zeros (suc n) (suc k) = zeros n k
-
 past : (xs : List ℕ) (n k : ℕ) → getD (xs ++ (1 ∷ replicate n 0)) (length xs + suc k) 0 ≡ 0
-past xs n k = getD-append-add xs (1 ∷ replicate n 0) (suc k) 0 ∙ zeros n k
+past xs n k = getD-append-add xs (1 ∷ replicate n 0) (suc k) 0 ∙ zeros-at n k
 
 pub padded-after : (xs : List ℕ) (k : ℕ) → length xs < k → 0 ≡ getD (paddedOf xs) k 0
 unfolding paddedOf
@@ -58,3 +58,17 @@ next n xs = refl
 
 pub absorbed-more : (n : ℕ) (xs : List ℕ) → absorbed (n + 1) xs ≡ absorbOf (absorbed n xs) (blockOf n xs)
 absorbed-more n xs = ap (λ (k : ℕ). absorbed k xs) (add-one n) ∙ next n xs
+
+-- ---- digests are words
+
+pub hash10-words : (xs : List ℕ) → Words (hash10Of xs)
+unfolding hash10Of
+hash10-words xs = take-below 5 (permutationOf (xs ++ replicate 6 1)) p (lit< tt) (permutation-words (xs ++ replicate 6 1))
+
+absorbed-words : (n : ℕ) (xs : List ℕ) → Words (absorbed (n + 1) xs .words)
+absorbed-words n xs = rw (absorbed-more n xs) (permutation-words (blockOf n xs ++ drop 10 (absorbed n xs .words)))
+
+pub hash-varlen-words : (xs : List ℕ) → Words (hashVarlenOf xs)
+unfolding hashVarlenOf
+hash-varlen-words xs =
+    take-below 5 (absorbed (length xs / 10 + 1) (paddedOf xs) .words) p (lit< tt) (absorbed-words (length xs / 10) (paddedOf xs))

@@ -1,0 +1,324 @@
+// The proved field and Tip5 beside a straightforward Rust version with 128-bit arithmetic, both in this one run.
+// First the two are compared on edge and random values; then nanoseconds and ratios (below 1: the proved side is faster).
+use std::hint::black_box;
+use std::time::Instant;
+
+extern "C" {
+    fn bench_mul(a: u64, b: u64) -> u64;
+    fn bench_mul_chain(a: u64, b: u64, n: u64) -> u64;
+    fn bench_mul_all(d: *mut u64, len: usize, b: u64);
+    fn bench_permutation(s: *mut u64);
+    fn bench_trace(s: *const u64, out: *mut u64);
+}
+
+const P: u64 = 0xffff_ffff_0000_0001;
+const COLUMN: [u64; 16] = [
+    61402, 1108, 28750, 33823, 7454, 43244, 53865, 12034, 56951, 27521, 41351, 40901, 12021, 59689, 26798, 17845,
+];
+const K: [u64; 80] = [
+    13630775303355457758,
+    16896927574093233874,
+    10379449653650130495,
+    1965408364413093495,
+    15232538947090185111,
+    15892634398091747074,
+    3989134140024871768,
+    2851411912127730865,
+    8709136439293758776,
+    3694858669662939734,
+    12692440244315327141,
+    10722316166358076749,
+    12745429320441639448,
+    17932424223723990421,
+    7558102534867937463,
+    15551047435855531404,
+    17532528648579384106,
+    5216785850422679555,
+    15418071332095031847,
+    11921929762955146258,
+    9738718993677019874,
+    3464580399432997147,
+    13408434769117164050,
+    264428218649616431,
+    4436247869008081381,
+    4063129435850804221,
+    2865073155741120117,
+    5749834437609765994,
+    6804196764189408435,
+    17060469201292988508,
+    9475383556737206708,
+    12876344085611465020,
+    13835756199368269249,
+    1648753455944344172,
+    9836124473569258483,
+    12867641597107932229,
+    11254152636692960595,
+    16550832737139861108,
+    11861573970480733262,
+    1256660473588673495,
+    13879506000676455136,
+    10564103842682358721,
+    16142842524796397521,
+    3287098591948630584,
+    685911471061284805,
+    5285298776918878023,
+    18310953571768047354,
+    3142266350630002035,
+    549990724933663297,
+    4901984846118077401,
+    11458643033696775769,
+    8706785264119212710,
+    12521758138015724072,
+    11877914062416978196,
+    11333318251134523752,
+    3933899631278608623,
+    16635128972021157924,
+    10291337173108950450,
+    4142107155024199350,
+    16973934533787743537,
+    11068111539125175221,
+    17546769694830203606,
+    5315217744825068993,
+    4609594252909613081,
+    3350107164315270407,
+    17715942834299349177,
+    9600609149219873996,
+    12894357635820003949,
+    4597649658040514631,
+    7735563950920491847,
+    1663379455870887181,
+    13889298103638829706,
+    7375530351220884434,
+    3502022433285269151,
+    9231805330431056952,
+    9252272755288523725,
+    10014268662326746219,
+    15565031632950843234,
+    1209725273521819323,
+    6024642864597845108,
+];
+
+// ---- the Rust version
+
+// x modulo P: 2^64 is 2^32 - 1 and 2^96 is -1.
+#[inline(always)]
+fn reduce(x: u128) -> u64 {
+    let (low, high) = (x as u64, (x >> 64) as u64);
+    let (mut t, borrow) = low.overflowing_sub(high >> 32);
+    if borrow {
+        t = t.wrapping_sub(0xffff_ffff);
+    }
+    let (r, carry) = t.overflowing_add((high & 0xffff_ffff) * 0xffff_ffff);
+    let r = r.wrapping_add(0xffff_ffff * carry as u64);
+    if r >= P {
+        r - P
+    } else {
+        r
+    }
+}
+
+#[inline(always)]
+fn mul(a: u64, b: u64) -> u64 {
+    reduce(a as u128 * b as u128)
+}
+
+fn lookup_table() -> [u8; 256] {
+    core::array::from_fn(|i| (((i as u64 + 1).pow(3) - 1) % 257) as u8)
+}
+
+#[inline(always)]
+fn split_and_lookup(table: &[u8; 256], x: u64) -> u64 {
+    let bytes = reduce((x as u128) << 64).to_le_bytes();
+    mul(u64::from_le_bytes(bytes.map(|b| table[b as usize])), P - (1 << 32))
+}
+
+#[inline(always)]
+fn seventh(x: u64) -> u64 {
+    let x2 = mul(x, x);
+    let x3 = mul(x2, x);
+    mul(mul(x3, x3), x)
+}
+
+#[inline(always)]
+fn round(table: &[u8; 256], s: &[u64; 16], r: usize) -> [u64; 16] {
+    let b: [u64; 16] = core::array::from_fn(|i| {
+        if i < 4 {
+            split_and_lookup(table, s[i])
+        } else {
+            seventh(s[i])
+        }
+    });
+    core::array::from_fn(|i| {
+        let sum: u128 = (0..16).map(|j| COLUMN[(16 + i - j) % 16] as u128 * b[j] as u128).sum();
+        reduce(sum + K[16 * r + i] as u128)
+    })
+}
+
+#[inline(never)]
+fn permutation(table: &[u8; 256], s: &mut [u64; 16]) {
+    for r in 0..5 {
+        *s = round(table, s, r);
+    }
+}
+
+#[inline(never)]
+fn trace(table: &[u8; 256], s: &[u64; 16], out: &mut [u64; 96]) {
+    let mut state = *s;
+    out[..16].copy_from_slice(&state);
+    for r in 0..5 {
+        state = round(table, &state, r);
+        out[16 * r + 16..16 * r + 32].copy_from_slice(&state);
+    }
+}
+
+#[inline(never)]
+fn mul_chain(a: u64, b: u64, n: u64) -> u64 {
+    (0..n).fold(a, |x, _| mul(x, b))
+}
+
+#[inline(never)]
+fn mul_all(d: &mut [u64], b: u64) {
+    for x in d {
+        *x = mul(*x, b);
+    }
+}
+
+// ---- agreement
+
+struct Random(u64);
+
+impl Random {
+    fn next(&mut self) -> u64 {
+        self.0 ^= self.0 << 13;
+        self.0 ^= self.0 >> 7;
+        self.0 ^= self.0 << 17;
+        self.0
+    }
+}
+
+fn same_mul(a: u64, b: u64) {
+    let wanted = (a as u128 * b as u128 % P as u128) as u64;
+    assert_eq!(unsafe { bench_mul(a, b) }, wanted, "{a} * {b}");
+    assert_eq!(mul(a, b), wanted, "{a} * {b}");
+}
+
+fn same_permutation(table: &[u8; 256], s: [u64; 16]) {
+    let (mut ours, mut theirs) = (s, s);
+    unsafe { bench_permutation(ours.as_mut_ptr()) };
+    permutation(table, &mut theirs);
+    assert_eq!(ours, theirs, "permutation of {s:?}");
+    let (mut our_trace, mut their_trace) = ([0; 96], [0; 96]);
+    unsafe { bench_trace(s.as_ptr(), our_trace.as_mut_ptr()) };
+    trace(table, &s, &mut their_trace);
+    assert_eq!(our_trace, their_trace, "trace of {s:?}");
+    assert_eq!(our_trace[80..], ours, "last state of {s:?}");
+}
+
+fn agree(table: &[u8; 256], random: &mut Random) {
+    let edges = [
+        0,
+        1,
+        2,
+        0xffff_ffff,
+        1 << 32,
+        (1 << 32) + 1,
+        1 << 63,
+        P - 2,
+        P - 1,
+        P,
+        P + 1,
+        u64::MAX - 1,
+        u64::MAX,
+    ];
+    for a in edges {
+        for b in edges {
+            same_mul(a, b);
+        }
+        same_permutation(table, [a; 16]);
+        same_permutation(table, core::array::from_fn(|i| edges[i % edges.len()] ^ a));
+    }
+    for _ in 0..5_000_000 {
+        same_mul(random.next(), random.next());
+    }
+    for _ in 0..100_000 {
+        same_permutation(table, core::array::from_fn(|_| random.next() % P));
+    }
+    println!("both sides agree");
+}
+
+// ---- times
+
+fn seconds(mut f: impl FnMut()) -> f64 {
+    let start = Instant::now();
+    f();
+    start.elapsed().as_secs_f64()
+}
+
+// The best of fifteen turns of each, taken in turns so that a slow moment meets both.
+fn report(name: &str, n: f64, mut ours: impl FnMut(), mut theirs: impl FnMut()) {
+    let (mut a, mut b) = (f64::MAX, f64::MAX);
+    for _ in 0..15 {
+        a = a.min(seconds(&mut ours));
+        b = b.min(seconds(&mut theirs));
+    }
+    println!(
+        "{name:<24} proved {:8.2} ns   Rust {:8.2} ns   ratio {:.2}",
+        a * 1e9 / n,
+        b * 1e9 / n,
+        a / b
+    );
+}
+
+fn main() {
+    let table = lookup_table();
+    let mut random = Random(0x9e37_79b9_7f4a_7c15);
+    agree(&table, &mut random);
+    let (a, b) = (black_box(random.next() % P), black_box(random.next() % P));
+    let n = 5_000_000;
+    report(
+        "mul, one after another",
+        n as f64,
+        || {
+            black_box(unsafe { bench_mul_chain(a, b, n) });
+        },
+        || {
+            black_box(mul_chain(a, b, n));
+        },
+    );
+    let mut d: Vec<u64> = (0..2000).map(|_| random.next() % P).collect();
+    let mut e = d.clone();
+    report(
+        "mul, side by side",
+        n as f64,
+        || (0..n / 2000).for_each(|_| unsafe { bench_mul_all(d.as_mut_ptr(), d.len(), b) }),
+        || (0..n / 2000).for_each(|_| mul_all(&mut e, b)),
+    );
+    let mut s: [u64; 16] = core::array::from_fn(|_| random.next() % P);
+    let mut t = s;
+    let n = 50_000;
+    report(
+        "Tip5 permutation",
+        n as f64,
+        || (0..n).for_each(|_| unsafe { bench_permutation(s.as_mut_ptr()) }),
+        || (0..n).for_each(|_| permutation(&table, &mut t)),
+    );
+    let (mut x, mut y) = ([0u64; 96], [0u64; 96]);
+    report(
+        "Tip5 trace",
+        n as f64,
+        || {
+            (0..n).for_each(|i| unsafe {
+                s[0] = i;
+                bench_trace(s.as_ptr(), x.as_mut_ptr());
+                black_box(&x);
+            })
+        },
+        || {
+            (0..n).for_each(|i| {
+                t[0] = i;
+                trace(&table, &t, &mut y);
+                black_box(&y);
+            })
+        },
+    );
+}
