@@ -2,15 +2,14 @@
 use mathlib.Core.Path.{_≡_}
 use mathlib.Core.List.{List}
 use Prim.Native.Nat.{ℕ}
-use lib.ListN.{length, length-replicate}
+use lib.ListN.{length}
 use Rattle.tip5.specs.Permutation.{traceOf}
+use Rattle.tip5.proofs.permutation.Laws as tip5
 use Rattle.machine.specs.Words.{Words}
-use Rattle.machine.proofs.Words.{words-zeros}
+use Rattle.machine.proofs.Words.{words-getD, words-from}
 
 pub trace-length : (s : List ℕ) → length s ≡ 16 → length (traceOf s) ≡ 96
-unfolding traceOf
-trace-length s h = length-replicate {A = ℕ} 96 0
+trace-length s h = tip5.trace-length s h
 
 pub trace-words : (s : List ℕ) → length s ≡ 16 → Words s → Words (traceOf s)
-unfolding traceOf
-trace-words s h b = words-zeros 96
+trace-words s h b = words-from (traceOf s) (tip5.trace-words s (λ k. words-getD k b))

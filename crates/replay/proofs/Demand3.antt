@@ -16,7 +16,7 @@ use Rattle.machine.specs.Records.{Record, recordBytes, logBytes}
 use Rattle.machine.specs.Sound.{Sound, Facts}
 use Rattle.machine.proofs.Choice.{first-zero, above-not}
 use Rattle.machine.proofs.Words.{zeros-fine, zeros-getD}
-use Rattle.machine.proofs.Ram.{cells1-alike, cells2-alike, cells5-alike}
+use Rattle.machine.proofs.RamLaws.{cells1-alike, cells2-alike, cells5-alike}
 use Rattle.machine.proofs.Bytes.{bytes-back, number-small}
 use Rattle.machine.proofs.Records.{Sized, sized-other, sized-stack, sized-ram, many-bytes, log-append}
 use Rattle.machine.proofs.PlaceA.{Opened, open-sound, cells1-fine, cells2-fine, cells5-fine}

@@ -8,3 +8,4 @@ pub mod Alter
 pub mod Bytes
 pub mod Demand3
 pub mod Job
+pub mod Triton

@@ -18,7 +18,7 @@ use Rattle.machine.specs.Apply.{touched, depthAfter, stackAfter, ramAfter}
 use Rattle.machine.specs.Records.{Record, other, stack, ram, lengthOf, wordsBytes, callRecord, callRecords, growing, shrinking, stackRecords, recordsOf}
 use Rattle.machine.specs.Sound.{Honest, Sound, Facts}
 use Rattle.machine.proofs.Words.{words-getD}
-use Rattle.machine.proofs.Ram.{stored-addresses, alike-held, alike-stored}
+use Rattle.machine.proofs.RamLaws.{stored-addresses, alike-held, alike-stored}
 use Rattle.machine.proofs.Touched.{touched-more}
 use Rattle.machine.proofs.OpStack.{applied-words, applied-length, applied-below}
 use Rattle.machine.proofs.Bytes.{bytes-length}
