@@ -8,3 +8,5 @@ pub mod Alter
 pub mod Bytes
 pub mod Demand3
 pub mod Job
+pub mod LastWrite
+pub mod Decide
