@@ -2,7 +2,7 @@
 -- once. Assumes nothing.
 use mathlib.Core.Path.{_≡_, refl, sym, ap, _∙_}
 use mathlib.Core.Bool.{Bool, true, false}
-use mathlib.Core.List.{List, [], _∷_, _++_}
+use mathlib.Core.List.{List}
 use Prim.Native.Nat.{ℕ, zero, suc, _+_, _≤_, _<_, max, min}
 use native.Mathlib.Omega.{arith}
 use borrow.Author.Tests.{ltb-true, ltb-false, eqb-true, eqb-false, lt-ltb, le-ltb, ne-eqb}
@@ -10,9 +10,9 @@ use lib.ListN.{length, take, getD, set, length-set, List·getD-eq-default}
 use lib.Seq.{take-set-lt, take-suc-set, getD-set-same, getD-set-other, set-out, set-getD, getD-take}
 use lib.Dec.{eqb, ltb, lit<}
 use Rattle.field.specs.Base.{p}
-use Rattle.machine.specs.Choice.{cond, firstOf, aboveOf}
-use Rattle.machine.specs.Words.{Words, none, more, wordsOf}
-use Rattle.machine.specs.Ram.{Cells, cells, Found, at, absent, placeFrom, find, heldAt, held, hasAt, has, storedAt, stored, Alike, cells1, cells2, cells5, twiceOf}
+use Rattle.machine.specs.Choice.{cond}
+use Rattle.machine.specs.Words.{Words, none, more}
+use Rattle.machine.specs.Ram.{Cells, cells, at, absent, placeFrom, find, heldAt, held, hasAt, has, storedAt, stored, Alike, cells1, cells2, cells5, twiceOf}
 use Rattle.machine.proofs.Choice.{first-zero, first-nil, above-not, above-nil}
 use Rattle.machine.proofs.Words.{words-getD, words-set, words-append, words-alike}
 
