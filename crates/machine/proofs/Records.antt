@@ -26,7 +26,7 @@ unfolding wordsBytes
 words-bytes-length [] = refl
 words-bytes-length (w ∷ ws) = rw (length-append (bytesOf 8 w) (wordsBytes ws), bytes-length 8 w) (omega (arith, words-bytes-length ws))
 
-other-length : (k : ℕ) (b : List ℕ) → lengthOf k ≡ length b + 2 → length (recordBytes (other k b)) ≡ lengthOf k + 2
+pub other-length : (k : ℕ) (b : List ℕ) → lengthOf k ≡ length b + 2 → length (recordBytes (other k b)) ≡ lengthOf k + 2
 unfolding recordBytes bytesOf
 other-length k b e = omega arith
 

@@ -69,5 +69,5 @@ module _ (decide : Machine → Decision) where
         ≡ refuses (cond (isWord b) 43 40) (replicate (length (m .memory .opStack)) 0) c
 
 -- of the real machine
-pub Demand3OfTriton : Type 0
+abbrev pub Demand3OfTriton : Type 0
 Demand3OfTriton = Demand3 decideOf
