@@ -3,11 +3,11 @@
 use mathlib.Core.Path.{_≡_, refl, sym, ap, _∙_}
 use mathlib.Core.Bool.{Bool, true, false}
 use mathlib.Core.List.{List, _++_}
-use Prim.Native.Nat.{ℕ, _+_, _-_, _≤_, _<_, min}
+use Prim.Native.Nat.{ℕ, _+_, _-_, _≤_, _<_}
 use native.Mathlib.Omega.{arith}
 use borrow.Author.Tests.{ltb-true, ltb-false}
 use lib.ListN.{length, take, drop, getD, replicate, length-take, length-append, length-drop, length-replicate, getD-replicate, List·getD-append}
-use lib.Seq.{take-append-le, take-take, paste, length-paste, length-paste-head, getD-append-add, getD-drop, getD-take, length-take-le}
+use lib.Seq.{take-append-le, take-take, length-paste, length-paste-head, getD-append-add, getD-drop, getD-take, length-take-le}
 use lib.Dec.{ltb}
 use Rattle.field.specs.Base.{p}
 use Rattle.machine.specs.Words.{Words}

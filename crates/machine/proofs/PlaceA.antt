@@ -1,23 +1,23 @@
 -- What place A accepts is a sound machine, and a sound machine is accepted; what open leaves is one. Assumes nothing.
-use mathlib.Core.Path.{_≡_, refl, sym, ap, _∙_}
+use mathlib.Core.Path.{_≡_, refl, ap, _∙_}
 use mathlib.Core.Bool.{Bool, true, false}
-use mathlib.Core.List.{List, [], _∷_}
-use Prim.Native.Nat.{ℕ, zero, suc, _+_, _-_, _*_, _/_, _%_, _≤_, _<_, min}
+use mathlib.Core.List.{List, _∷_}
+use Prim.Native.Nat.{ℕ, zero, suc, _-_, _/_, _%_, _≤_, _<_, min}
 use native.Mathlib.Omega.{arith}
-use borrow.Author.Tests.{eqb-true, ltb-true, ltb-false, eq-eqb}
-use lib.ListN.{length, take, getD, replicate, length-replicate, List·getD-eq-default}
-use lib.Seq.{getD-take, take-length, take-all}
+use borrow.Author.Tests.{eqb-true, ltb-true, ltb-false}
+use lib.ListN.{length, getD, replicate, length-replicate, List·getD-eq-default}
+use lib.Seq.{getD-take}
 use lib.Dec.{eqb, ltb, lit<, lit≤}
 use Rattle.field.specs.Base.{p}
-use Rattle.machine.specs.Choice.{cond, firstOf, aboveOf, differOf}
-use Rattle.machine.specs.Words.{Words, none, more, wordOf2, wordsOf, zerosFrom}
+use Rattle.machine.specs.Choice.{cond}
+use Rattle.machine.specs.Words.{more, wordsOf}
 use Rattle.machine.specs.Refusal.{plainly}
-use Rattle.machine.specs.Ram.{Cells, cells, cells1, cells2, cells5, twiceOf}
+use Rattle.machine.specs.Ram.{Cells, cells, cells1, cells2, cells5}
 use Rattle.machine.specs.Machine.{Code, Memory, Machine, ram}
-use Rattle.machine.specs.Apply.{Outcome, took, kept}
-use Rattle.machine.specs.PlaceA.{longest, tooLong, code1, memory1, code2, used2, machine2, opcodes3, arguments4, code34, unused5, machine5, machineA, openA}
+use Rattle.machine.specs.Apply.{took, kept}
+use Rattle.machine.specs.PlaceA.{longest, code1, memory1, code2, used2, machine2, code34, unused5, machine5, machineA, openA}
 use Rattle.machine.specs.Open.{openedStack, opened, openOf}
-use Rattle.machine.specs.Sound.{SoundCode, SoundCells, SoundStack, SoundSponge, Sound}
+use Rattle.machine.specs.Sound.{SoundCode, SoundCells, SoundStack, Sound}
 use Rattle.machine.proofs.Choice.{first-zero, first-nil, above-not, above-nil, differ-not, differ-nil}
 use Rattle.machine.proofs.Words.{words-getD, words-all, words-zeros, zeros-getD, word-nil, word-fine, words-at, words-nil, words-whole, words-test, words-used, zeros-nil, zeros-fine}
 

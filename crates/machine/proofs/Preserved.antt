@@ -1,23 +1,22 @@
 -- A step leaves a sound machine: what it takes, where its effect has the facts and place D finds room, and also skiz refused
 -- with its word dropped. Assumes nothing.
-use mathlib.Core.Path.{_≡_, refl, sym, ap, _∙_}
+use mathlib.Core.Path.{_≡_, refl, sym, _∙_}
 use mathlib.Core.Bool.{Bool, true, false}
-use mathlib.Core.List.{List, [], _∷_}
-use Prim.Native.Nat.{ℕ, zero, suc, _+_, _-_, _≤_, _<_}
+use mathlib.Core.List.{List}
+use Prim.Native.Nat.{ℕ, _+_, _-_, _≤_, _<_}
 use native.Mathlib.Omega.{arith}
 use borrow.Author.Tests.{eqb-true, eqb-false, ltb-true, ltb-false}
 use lib.ListN.{length, getD, set, length-set, List·getD-eq-default}
 use lib.Seq.{getD-set-same, getD-set-other, set-out}
 use lib.Dec.{eqb, ltb, lit<}
 use Rattle.field.specs.Base.{p}
-use Rattle.machine.specs.Choice.{cond}
-use Rattle.machine.specs.Machine.{Machine, ram}
-use Rattle.machine.specs.Effect.{Effect, JumpChange, stays, pushes, pops, Decision, acts, refuses, drops}
-use Rattle.machine.specs.Apply.{put, depthAfter, stackAfter, jumpsAfter, originsAfter, destinationsAfter, ramAfter, performed, dropped, limitsOf}
+use Rattle.machine.specs.Machine.{Machine}
+use Rattle.machine.specs.Effect.{Effect, JumpChange, stays, pushes, pops}
+use Rattle.machine.specs.Apply.{put, depthAfter, jumpsAfter, originsAfter, destinationsAfter, ramAfter, performed, dropped, limitsOf}
 use Rattle.machine.specs.Sound.{SoundStack, Sound, HonestJump, staying, popping, pushing, Facts}
 use Rattle.machine.proofs.Choice.{first-nil, above-nil}
 use Rattle.machine.proofs.Words.{words-set}
-use Rattle.machine.proofs.Touched.{touched-addresses, touched-sound}
+use Rattle.machine.proofs.Touched.{touched-sound}
 use Rattle.machine.proofs.OpStack.{put-length, applied-sound}
 
 -- ---- place D finds room

@@ -2,7 +2,7 @@
 -- once. Assumes nothing.
 use mathlib.Core.Path.{_≡_, refl, sym, ap, _∙_}
 use mathlib.Core.Bool.{Bool, true, false}
-use mathlib.Core.List.{List, [], _∷_, _++_}
+use mathlib.Core.List.{List}
 use Prim.Native.Nat.{ℕ, zero, suc, _+_, _≤_, _<_, max, min}
 use native.Mathlib.Omega.{arith}
 use borrow.Author.Tests.{ltb-true, ltb-false, eqb-true, eqb-false, lt-ltb, le-ltb, ne-eqb}
@@ -10,9 +10,9 @@ use lib.ListN.{length, take, getD, set, length-set, List·getD-eq-default}
 use lib.Seq.{take-set-lt, take-suc-set, getD-set-same, getD-set-other, set-out, set-getD, getD-take}
 use lib.Dec.{eqb, ltb, lit<}
 use Rattle.field.specs.Base.{p}
-use Rattle.machine.specs.Choice.{cond, firstOf, aboveOf}
-use Rattle.machine.specs.Words.{Words, none, more, wordsOf}
-use Rattle.machine.specs.Ram.{Cells, cells, Found, at, absent, placeFrom, find, heldAt, held, storedAt, stored, Alike, cells1, cells2, cells5, twiceOf}
+use Rattle.machine.specs.Choice.{cond}
+use Rattle.machine.specs.Words.{Words, none, more}
+use Rattle.machine.specs.Ram.{Cells, cells, at, absent, placeFrom, find, heldAt, held, hasAt, has, storedAt, stored, Alike, cells1, cells2, cells5, twiceOf}
 use Rattle.machine.proofs.Choice.{first-zero, first-nil, above-not, above-nil}
 use Rattle.machine.proofs.Words.{words-getD, words-set, words-append, words-alike}
 
@@ -80,13 +80,10 @@ unfolding placeFrom
 place-alike s t a zero i h = refl
 place-alike s t a (suc f) i h = rw (h i (omega arith), place-alike s t a f (suc i) (λ k l. h k (omega arith)))
 
--- ---- the same over cells: the place of an address, and whether it has a cell
+-- ---- the same over cells
 
-unfoldable pub placeOf : Cells → ℕ → ℕ
+unfoldable placeOf : Cells → ℕ → ℕ
 placeOf c a = placeFrom (c .addresses) a (c .count) 0
-
-unfoldable pub has : Cells → ℕ → Bool
-has c a = ltb (placeOf c a) (c .count)
 
 place-le : (c : Cells) (a : ℕ) → placeOf c a ≤ c .count
 unfolding placeOf
@@ -118,8 +115,42 @@ find-absent : (c : Cells) (a : ℕ) → c .count ≤ placeOf c a → find c a �
 unfolding find placeOf
 find-absent c a h = rw (le-ltb (placeFrom (c .addresses) a (c .count) 0) (c .count) h)
 
-held-is : (c : Cells) (a : ℕ) → held c a ≡ cond (has c a) (getD (c .values) (placeOf c a) 0) 0
-unfolding held has
+-- where an address is found it stands, at a used place
+pub found-at : (c : Cells) (a i : ℕ) → find c a ≡ at i → (i < c .count) × (getD (c .addresses) i 0 ≡ a)
+found-at c a i h = go (ltb (placeOf c a) (c .count)) refl
+  where
+    go : (t : Bool) → ltb (placeOf c a) (c .count) ≡ t → (i < c .count) × (getD (c .addresses) i 0 ≡ a)
+    go true e =
+        let l : placeOf c a < c .count = ltb-true (placeOf c a) (c .count) e in
+        let q = find-at c a l in
+        let k : placeOf c a ≡ i = cc in
+        rw (← k) (l, place-has c a l)
+    go false e =
+        let q = find-absent c a (ltb-false (placeOf c a) (c .count) e) in
+        let z : _≡_ {A = ℕ} 0 1 = cc in
+        absurd (omega arith)
+
+-- and where it is absent no used place has it
+pub found-absent : (c : Cells) (a i : ℕ) → find c a ≡ absent i → (k : ℕ) → k < c .count → getD (c .addresses) k 0 ≡ a → ⊥
+found-absent c a i h k l = go (ltb (placeOf c a) (c .count)) refl
+  where
+    go : (t : Bool) → ltb (placeOf c a) (c .count) ≡ t → getD (c .addresses) k 0 ≡ a → ⊥
+    go true e =
+        let q = find-at c a (ltb-true (placeOf c a) (c .count) e) in
+        let z : _≡_ {A = ℕ} 0 1 = cc in
+        absurd (omega arith)
+    go false e = place-lacks c a k (omega (arith, ltb-false (placeOf c a) (c .count) e))
+
+has-is : (c : Cells) (a : ℕ) → has c a ≡ ltb (placeOf c a) (c .count)
+unfolding has
+has-is c a = go (ltb (placeOf c a) (c .count)) refl
+  where
+    go : (t : Bool) → ltb (placeOf c a) (c .count) ≡ t → hasAt (find c a) ≡ t
+    go true e = rw (find-at c a (ltb-true (placeOf c a) (c .count) e))
+    go false e = rw (find-absent c a (ltb-false (placeOf c a) (c .count) e))
+
+held-is : (c : Cells) (a : ℕ) → held c a ≡ cond (ltb (placeOf c a) (c .count)) (getD (c .values) (placeOf c a) 0) 0
+unfolding held
 held-is c a = go (ltb (placeOf c a) (c .count)) refl
   where
     go : (t : Bool) → ltb (placeOf c a) (c .count) ≡ t → heldAt c (find c a) ≡ cond t (getD (c .values) (placeOf c a) 0) 0
@@ -160,8 +191,7 @@ module _ (c : Cells) (a v : ℕ) where
   stored-more = omega (arith, count-is)
 
   pub stored-count : stored c a v .count ≡ cond (has c a) (c .count) (c .count + 1)
-  unfolding has
-  stored-count = count-is ∙ go (ltb (placeOf c a) (c .count)) refl
+  stored-count = count-is ∙ rw (has-is c a) (go (ltb (placeOf c a) (c .count)) refl)
     where
       go : (t : Bool) → ltb (placeOf c a) (c .count) ≡ t → max (c .count) (placeOf c a + 1) ≡ cond t (c .count) (c .count + 1)
       go true e = omega (arith, ltb-true (placeOf c a) (c .count) e)
@@ -201,7 +231,6 @@ stored-addresses-words c a v h l b =
 
 -- what is held is a word
 pub held-word : (c : Cells) (a : ℕ) → Words (take (c .count) (c .values)) → held c a < p
-unfolding has
 held-word c a b = rw (held-is c a) (go (ltb (placeOf c a) (c .count)) refl)
   where
     go : (t : Bool) → ltb (placeOf c a) (c .count) ≡ t → cond t (getD (c .values) (placeOf c a) 0) 0 < p
@@ -236,12 +265,14 @@ module _ (c : Cells) (a v : ℕ) (room : stored c a v .count ≤ length (c .addr
       (λ k y z. place-lacks c a k y (sym (address-other k (λ (q : k ≡ placeOf c a). omega arith)) ∙ z))
       address-same
 
+  placed-same : ltb (placeOf (stored c a v) a) (stored c a v .count) ≡ true
+  placed-same = rw place-stored (lt-ltb (placeOf c a) (stored c a v .count) (place-under c a v))
+
   pub has-same : has (stored c a v) a ≡ true
-  unfolding has
-  has-same = rw place-stored (lt-ltb (placeOf c a) (stored c a v .count) (place-under c a v))
+  has-same = has-is (stored c a v) a ∙ placed-same
 
   pub held-same : held (stored c a v) a ≡ v
-  held-same = held-is (stored c a v) a ∙ rw (has-same, place-stored) value-same
+  held-same = held-is (stored c a v) a ∙ rw (placed-same, place-stored) value-same
 
   module _ (b : ℕ) (ne : b ≡ a → ⊥) where
     -- b stands at no place but those where it stood
@@ -265,9 +296,8 @@ module _ (c : Cells) (a v : ℕ) (room : stored c a v .count ≤ length (c .addr
     no-place : c .count ≤ placeOf c b → placeOf (stored c a v) b ≡ stored c a v .count
     no-place h = place-out (stored c a v) b (λ k l. not-there k (λ m. place-lacks c b k (omega arith)) l)
 
-    pub has-other : has (stored c a v) b ≡ has c b
-    unfolding has
-    has-other = go (ltb (placeOf c b) (c .count)) refl
+    placed-other : ltb (placeOf (stored c a v) b) (stored c a v .count) ≡ ltb (placeOf c b) (c .count)
+    placed-other = go (ltb (placeOf c b) (c .count)) refl
       where
         go : (t : Bool) → ltb (placeOf c b) (c .count) ≡ t → ltb (placeOf (stored c a v) b) (stored c a v .count) ≡ ltb (placeOf c b) (c .count)
         go true q =
@@ -277,9 +307,11 @@ module _ (c : Cells) (a v : ℕ) (room : stored c a v .count ≤ length (c .addr
             let r : stored c a v .count ≤ stored c a v .count = omega arith in
             rw (no-place (ltb-false (placeOf c b) (c .count) q), q) (le-ltb (stored c a v .count) (stored c a v .count) r)
 
+    pub has-other : has (stored c a v) b ≡ has c b
+    has-other = has-is (stored c a v) b ∙ placed-other ∙ sym (has-is c b)
+
     pub held-other : held (stored c a v) b ≡ held c b
-    unfolding has
-    held-other = held-is (stored c a v) b ∙ rw has-other (go (ltb (placeOf c b) (c .count)) refl) ∙ sym (held-is c b)
+    held-other = held-is (stored c a v) b ∙ rw placed-other (go (ltb (placeOf c b) (c .count)) refl) ∙ sym (held-is c b)
       where
         go : (t : Bool) → ltb (placeOf c b) (c .count) ≡ t → cond t (getD (stored c a v .values) (placeOf (stored c a v) b) 0) 0 ≡ cond t (getD (c .values) (placeOf c b) 0) 0
         go true q =
@@ -312,7 +344,6 @@ unfolding placeOf
 alike-place {c} {d} h a = rw (← h .count) (place-alike (c .addresses) (d .addresses) a (c .count) 0 (λ k l. h .addresses k (omega arith)))
 
 pub alike-held : {c d : Cells} → Alike c d → (a : ℕ) → held c a ≡ held d a
-unfolding has
 alike-held {c} {d} h a = held-is c a ∙ rw (alike-place h a, h .count) (go (ltb (placeOf d a) (d .count)) refl) ∙ sym (held-is d a)
   where
     go : (t : Bool) → ltb (placeOf d a) (d .count) ≡ t → cond t (getD (c .values) (placeOf d a) 0) 0 ≡ cond t (getD (d .values) (placeOf d a) 0) 0

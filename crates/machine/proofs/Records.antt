@@ -2,7 +2,7 @@
 use mathlib.Core.Path.{_≡_, refl, sym, ap, _∙_}
 use mathlib.Core.Bool.{Bool, true, false}
 use mathlib.Core.List.{List, [], _∷_, _++_, append-assoc, append-nil}
-use Prim.Native.Nat.{ℕ, zero, suc, _+_, _-_, _*_, _≤_, _<_}
+use Prim.Native.Nat.{ℕ, suc, _+_, _-_, _*_, _≤_, _<_}
 use native.Mathlib.Omega.{arith}
 use borrow.Author.Tests.{le-ltb, eq-eqb, ne-eqb}
 use lib.ListN.{length, getD, take, drop, length-append, length-drop}
@@ -26,7 +26,7 @@ unfolding wordsBytes
 words-bytes-length [] = refl
 words-bytes-length (w ∷ ws) = rw (length-append (bytesOf 8 w) (wordsBytes ws), bytes-length 8 w) (omega (arith, words-bytes-length ws))
 
-other-length : (k : ℕ) (b : List ℕ) → lengthOf k ≡ length b + 2 → length (recordBytes (other k b)) ≡ lengthOf k + 2
+pub other-length : (k : ℕ) (b : List ℕ) → lengthOf k ≡ length b + 2 → length (recordBytes (other k b)) ≡ lengthOf k + 2
 unfolding recordBytes bytesOf
 other-length k b e = omega arith
 

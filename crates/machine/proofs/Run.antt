@@ -16,7 +16,7 @@ use Rattle.machine.specs.Step.{Ending, halted, spent, refused, Ran, ran,
 use Rattle.machine.specs.Sound.{Sound, Facts}
 use Rattle.machine.proofs.Preserved.{dropped-sound}
 use Rattle.machine.proofs.PlaceA.{machine-accepted}
-use Rattle.machine.proofs.Step.{step-took, took-sound, step-sound, step-lost}
+use Rattle.machine.proofs.Step.{step-sound, step-lost}
 
 -- ---- how a run behind place A ends
 
@@ -155,6 +155,48 @@ module _ (decide : Machine → Decision) where
           ≡ followed (cond t (ran 0 halted m) (onStep m (λ x. stepsBy decide a x) (outcomeBy decide m))) (λ x. stepsBy decide b x)
       go true q ih = let z : _≡_ {A = ℕ} 0 1 = cc in absurd (omega arith)
       go false q ih = onStep-more a b m (outcomeBy decide m) ih q
+
+  -- a halted machine stays
+  halted-stays : (b : ℕ) (m : Machine) → m .state .halted ≡ true → stepsBy decide b m ≡ ran 0 halted m
+  unfolding stepsBy
+  halted-stays zero m h = rw h
+  halted-stays (suc b) m h = rw h
+
+  onStep-done : (a b : ℕ) (m : Machine) (o : Outcome) → ((x : Machine) → (stepsBy decide a x .ending ≡ spent → ⊥) → stepsBy decide (a + b) x ≡ stepsBy decide a x) →
+      (onStep m (λ x. stepsBy decide a x) o .ending ≡ spent → ⊥) → onStep m (λ x. stepsBy decide (a + b) x) o ≡ onStep m (λ x. stepsBy decide a x) o
+  onStep-done a b m (took x) ih e = ap (λ (r : Ran). ran (r .count + 1) (r .ending) (r .left)) (ih x e)
+  onStep-done a b m (kept r) ih e = refl
+  onStep-done a b m (lost r x) ih e = refl
+
+  steps-done : (a b : ℕ) (m : Machine) → (stepsBy decide a m .ending ≡ spent → ⊥) → stepsBy decide (a + b) m ≡ stepsBy decide a m
+  unfolding stepsBy
+  steps-done zero b m e =
+      let k : 0 + b ≡ b = omega arith in
+      ap (λ (n : ℕ). stepsBy decide n m) k ∙ go (m .state .halted) refl e
+    where
+      go : (t : Bool) → m .state .halted ≡ t → (cond t halted spent ≡ spent → ⊥) → stepsBy decide b m ≡ ran 0 (cond t halted spent) m
+      go true h q = halted-stays b m h
+      go false h q = absurd (q refl)
+  steps-done (suc a) b m e =
+      let k : suc a + b ≡ suc (a + b) = omega arith in
+      ap (λ (n : ℕ). stepsBy decide n m) k ∙ go (m .state .halted) e (λ x. steps-done a b x)
+    where
+      go : (t : Bool) → (cond t (ran 0 halted m) (onStep m (λ x. stepsBy decide a x) (outcomeBy decide m)) .ending ≡ spent → ⊥) →
+          ((x : Machine) → (stepsBy decide a x .ending ≡ spent → ⊥) → stepsBy decide (a + b) x ≡ stepsBy decide a x) →
+          cond t (ran 0 halted m) (onStep m (λ x. stepsBy decide (a + b) x) (outcomeBy decide m))
+          ≡ cond t (ran 0 halted m) (onStep m (λ x. stepsBy decide a x) (outcomeBy decide m))
+      go true q ih = refl
+      go false q ih = onStep-done a b m (outcomeBy decide m) ih q
+
+  -- a run that ends halted or refused is the same with a larger budget
+  pub run-done : (a b : ℕ) (m : Machine) → (runBy decide a m .ending ≡ spent → ⊥) → runBy decide (a + b) m ≡ runBy decide a m
+  unfolding runBy
+  run-done a b m = go (eqb (machineA m) 0)
+    where
+      go : (t : Bool) → (cond t (stepsBy decide a m) (ran 0 (refused (plainly (machineA m))) m) .ending ≡ spent → ⊥) →
+          cond t (stepsBy decide (a + b) m) (ran 0 (refused (plainly (machineA m))) m) ≡ cond t (stepsBy decide a m) (ran 0 (refused (plainly (machineA m))) m)
+      go true q = steps-done a b m q
+      go false q = refl
 
   module _ (facts : (m : Machine) → Sound m → (e : Effect) → decide m ≡ acts e → Facts m e) where
     -- ---- a sound machine is left

@@ -1,8 +1,8 @@
 -- One step: what a successful one is, what a refused one leaves, and that a sound machine is left. Assumes nothing.
-use mathlib.Core.Path.{_≡_, refl, sym, ap, _∙_}
+use mathlib.Core.Path.{_≡_, refl}
 use mathlib.Core.Bool.{Bool, true, false}
-use mathlib.Core.List.{List, [], _∷_, _++_}
-use Prim.Native.Nat.{ℕ, _+_, _≤_}
+use mathlib.Core.List.{List, _++_}
+use Prim.Native.Nat.{ℕ, _+_}
 use native.Mathlib.Omega.{arith}
 use borrow.Author.Tests.{eqb-true, eq-eqb}
 use lib.ListN.{length, drop}
@@ -12,12 +12,11 @@ use Rattle.machine.specs.Refusal.{Refusal, plainly}
 use Rattle.machine.specs.Machine.{Machine}
 use Rattle.machine.specs.Effect.{Effect, Decision, acts, refuses, drops}
 use Rattle.machine.specs.Apply.{performed, dropped, limitsOf, Outcome, took, kept, lost, settled}
-use Rattle.machine.specs.Records.{Record, logBytes}
-use Rattle.machine.specs.PlaceA.{machineA, stepA}
+use Rattle.machine.specs.Records.{logBytes}
+use Rattle.machine.specs.PlaceA.{stepA}
 use Rattle.machine.specs.Step.{Stepped, recordsIn, steppedBy, outcomeBy, stepBy}
 use Rattle.machine.specs.Sound.{Sound, Facts}
-use Rattle.machine.proofs.Choice.{first-nil}
-use Rattle.machine.proofs.Preserved.{performed-sound, dropped-sound}
+use Rattle.machine.proofs.Preserved.{performed-sound}
 
 -- ---- the step behind place A
 

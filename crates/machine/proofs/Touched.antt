@@ -4,10 +4,12 @@ use mathlib.Core.List.{List, [], _∷_}
 use Prim.Native.Nat.{ℕ, _≤_, _<_}
 use native.Mathlib.Omega.{arith}
 use lib.ListN.{length}
+use lib.Dec.{eqb}
 use Rattle.field.specs.Base.{p}
+use Rattle.machine.specs.Choice.{cond}
 use Rattle.machine.specs.Ram.{Cells, held, stored, Alike}
 use Rattle.machine.specs.Effect.{Call, reset, tip5, u32, ramRead, ramWrite}
-use Rattle.machine.specs.Apply.{touched, wroteOf}
+use Rattle.machine.specs.Apply.{touched}
 use Rattle.machine.specs.Sound.{SoundCells, Honest}
 use Rattle.machine.proofs.RamLaws.{stored-more, stored-addresses, stored-values, stored-words, stored-addresses-words, stored-once, held-stored, alike-stored}
 
@@ -77,6 +79,15 @@ touched-sound {c} (Honest.writes {cs = cs} {a = a} {v = v} h k g) f s =
     touched-sound g (rw (stored-addresses c a v) f) (stored-sound a v h k (first-fits c a v cs f) s)
 
 -- ---- the word held is that of the last write to its address, else the word before
+
+-- the last word that the calls write to the address a, x where they write none
+unfoldable pub wroteOf : List Call → ℕ → ℕ → ℕ
+wroteOf [] a x = x
+wroteOf (reset ∷ cs) a x = wroteOf cs a x
+wroteOf (tip5 o t ∷ cs) a x = wroteOf cs a x
+wroteOf (u32 o l r ∷ cs) a x = wroteOf cs a x
+wroteOf (ramRead b v ∷ cs) a x = wroteOf cs a x
+wroteOf (ramWrite b v ∷ cs) a x = wroteOf cs a (cond (eqb a b) v x)
 
 pub held-touched : (cs : List Call) (c : Cells) → touched c cs .count ≤ length (c .addresses) → length (c .addresses) ≡ length (c .values) → (a : ℕ) → held (touched c cs) a ≡ wroteOf cs a (held c a)
 unfolding touched wroteOf

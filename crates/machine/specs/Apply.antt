@@ -58,15 +58,6 @@ touched c (u32 o l r ∷ cs) = touched c cs
 touched c (ramRead a v ∷ cs) = touched c cs
 touched c (ramWrite a v ∷ cs) = touched (stored c a v) cs
 
--- the last word that the calls write to the address a, x where they write none; a law only, no call is defined by it
-unfoldable pub wroteOf : List Call → ℕ → ℕ → ℕ
-wroteOf [] a x = x
-wroteOf (reset ∷ cs) a x = wroteOf cs a x
-wroteOf (tip5 o t ∷ cs) a x = wroteOf cs a x
-wroteOf (u32 o l r ∷ cs) a x = wroteOf cs a x
-wroteOf (ramRead b v ∷ cs) a x = wroteOf cs a x
-wroteOf (ramWrite b v ∷ cs) a x = wroteOf cs a (cond (eqb a b) v x)
-
 abbrev pub ramAfter : Machine → Effect → Cells
 ramAfter m e = touched (ram m) (e .calls)
 

@@ -2,6 +2,7 @@
 -- held, stored and the conditions at the end, and looks behind none of them.
 use Prim.Native.Nat.{ℕ, zero, suc, _+_, _<_, min}
 use mathlib.Core.Path.{_≡_}
+use mathlib.Core.Bool.{Bool, true, false}
 use mathlib.Core.List.{List}
 use lib.ListN.{length, getD, set}
 use lib.Dec.{eqb, ltb}
@@ -29,6 +30,14 @@ placeFrom s a (suc f) i = cond (eqb (getD s i 0) a) i (placeFrom s a f (suc i))
 -- 'a new address goes behind the last used cell'
 unfoldable pub find : Cells → ℕ → Found
 find c a = cond (ltb (placeFrom (c .addresses) a (c .count) 0) (c .count)) (at (placeFrom (c .addresses) a (c .count) 0)) (absent (c .count))
+
+abbrev pub hasAt : Found → Bool
+hasAt (at i) = true
+hasAt (absent i) = false
+
+-- whether an address has a cell
+unfoldable pub has : Cells → ℕ → Bool
+has c a = hasAt (find c a)
 
 -- 'a read of an absent address gives 0'
 abbrev pub heldAt : Cells → Found → ℕ

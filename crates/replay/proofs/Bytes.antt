@@ -1,6 +1,6 @@
 -- Replay over a log's bytes is replay over its records; one turn over bytes, without fuel. Assumes nothing.
 use mathlib.Core.Path.{_≡_, refl, ap, _∙_}
-use mathlib.Core.List.{List, [], _∷_, _++_}
+use mathlib.Core.List.{List, [], _∷_}
 use Prim.Native.Nat.{ℕ, zero, suc, _≤_, _<_}
 use native.Mathlib.Omega.{arith}
 use lib.ListN.{length}
@@ -8,7 +8,7 @@ use Rattle.machine.specs.Bytes.{Bytes, bytesOf, numberOf}
 use Rattle.machine.specs.Records.{Record, other, stack, ram, recordBytes, logBytes, Parsed, ended, broken, found, parse}
 use Rattle.machine.proofs.Bytes.{bytes-back}
 use Rattle.machine.proofs.Records.{Sized, sized-other, sized-stack, sized-ram, parse-record, Shorter, at-end, at-break, at-record, parse-shorter}
-use Rattle.replay.specs.Replay.{Built, Verdict, stops, wrong, goes, readOf, Went, fine, onward, onParsed, replayRecords, replayBytes}
+use Rattle.replay.specs.Replay.{Built, Verdict, stops, wrong, goes, readOf, Went, onward, onParsed, replayRecords, replayBytes}
 use Rattle.replay.specs.Demand3.{altered}
 use Rattle.replay.proofs.Verdicts.{All, none, more}
 use Rattle.replay.proofs.Alter.{changed}

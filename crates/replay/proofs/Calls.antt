@@ -10,7 +10,7 @@ use Rattle.machine.specs.Machine.{Machine}
 use Rattle.machine.specs.Effect.{Decision}
 use Rattle.machine.specs.Apply.{Outcome, took, kept, lost}
 use Rattle.machine.specs.PlaceA.{machineA, stepA}
-use Rattle.machine.specs.Step.{outcomeBy, stepBy}
+use Rattle.machine.specs.Step.{outcomeBy}
 use Rattle.machine.proofs.Step.{step-outcome}
 use Rattle.replay.specs.Job.{Ask, step, run, Called, called, onTook, passed, askOf, jobOf}
 use Rattle.replay.proofs.Chains.{Chain, chain-none, chain-more}

@@ -24,11 +24,11 @@ use Rattle.replay.specs.Replay.{built, fine, replayRecords, finished, re
 use Rattle.replay.specs.Job.{Ask, recordsOfJob, machineAt}
 use Rattle.replay.specs.Demand3.{Rebuilt, Read, altered, replayed, Case, Demand3}
 use Rattle.replay.proofs.Under.{under-zeros}
-use Rattle.replay.proofs.Verdicts.{All, none, more, all-map, replay-on, replay-late}
+use Rattle.replay.proofs.Verdicts.{All, more, all-map, replay-on, replay-late}
 use Rattle.replay.proofs.Steps.{Fine, fine-other, fine-stack, fine-ram}
 use Rattle.replay.proofs.Chains.{shadow, Since, Split, chain-fine, chain-split}
 use Rattle.replay.proofs.Calls.{job-chain}
-use Rattle.replay.proofs.Alter.{changed, faultOf, replay-other}
+use Rattle.replay.proofs.Alter.{changed, replay-other}
 use Rattle.replay.proofs.Bytes.{bytes-replay, altered-is, changed-length, changed-sized}
 
 -- ---- replay's own checks pass

@@ -2,8 +2,8 @@
 -- are those of step, and its log is what step writes. Assumes nothing.
 use mathlib.Core.Path.{_≡_, refl, sym, ap, _∙_}
 use mathlib.Core.Bool.{Bool, true, false}
-use mathlib.Core.List.{List, [], _∷_, _++_, append-nil}
-use Prim.Native.Nat.{ℕ, zero, suc, _+_}
+use mathlib.Core.List.{List, [], _∷_, append-nil}
+use Prim.Native.Nat.{ℕ, zero, suc}
 use native.Mathlib.Numerals.{add-one}
 use native.Mathlib.Omega.{arith}
 use lib.ListN.{length, take, drop}
@@ -16,8 +16,8 @@ use Rattle.machine.specs.Effect.{Decision}
 use Rattle.machine.specs.Apply.{Outcome, took, kept, lost}
 use Rattle.machine.specs.Records.{logBytes}
 use Rattle.machine.specs.PlaceA.{machineA, stepA}
-use Rattle.machine.specs.Step.{Ending, halted, spent, refused, Ran, ran, onStep, Stepped, steppedBy, recordsIn, outcomeBy, stepBy, stepsBy, runBy}
-use Rattle.replay.specs.Job.{Ask, step, run, Called, called, onTook, passed, askOf, logFrom}
+use Rattle.machine.specs.Step.{halted, refused, Ran, ran, onStep, Stepped, steppedBy, recordsIn, outcomeBy, stepBy, stepsBy, runBy}
+use Rattle.replay.specs.Job.{step, run, Called, called, onTook, passed, askOf, logFrom}
 
 -- a run r and the call c of a job that says the same
 record Agree (r : Ran) (c : Called) : Type 0 where

@@ -9,3 +9,5 @@ pub mod Bytes
 pub mod Demand3
 pub mod Job
 pub mod Triton
+pub mod LastWrite
+pub mod Decide

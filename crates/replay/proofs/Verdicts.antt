@@ -4,17 +4,16 @@ use mathlib.Core.Bool.{Bool, true, false}
 use mathlib.Core.List.{List, [], _∷_, _++_}
 use Prim.Native.Nat.{ℕ, _+_, _-_, _≤_, _<_}
 use native.Mathlib.Omega.{arith}
-use borrow.Author.Tests.{eq-eqb, ne-eqb, lt-ltb, le-ltb, eqb-true}
+use borrow.Author.Tests.{eq-eqb, ne-eqb, lt-ltb, le-ltb, eqb-true, ltb-true}
 use lib.ListN.{length, getD, set}
 use lib.Dec.{eqb, ltb}
 use Rattle.machine.specs.Words.{p}
 use Rattle.machine.specs.Choice.{cond, firstOf, aboveOf}
 use Rattle.machine.specs.Ram.{held, stored}
-use Rattle.machine.specs.Bytes.{bytesOf, isWord}
 use Rattle.machine.specs.Records.{Record, other, stack, ram}
 use Rattle.machine.proofs.Choice.{first-zero, above-not, differ-not}
 use Rattle.machine.proofs.Bytes.{is-word-of}
-use Rattle.replay.specs.Replay.{Built, built, word40, fields40, stackFault, ramFault, stackTurn, ramTurn, Verdict, stops, wrong, goes, judged, readOf, Went, fine, onward, replayRecords}
+use Rattle.replay.specs.Replay.{Built, built, word40, fields40, stackFault, ramFault, stackTurn, ramTurn, stops, wrong, goes, judged, readOf, fine, onward, replayRecords}
 
 -- ---- records in a row
 
@@ -98,6 +97,15 @@ unfolding word40
 word-fine v h =
     let s : v < 18446744073709551616 = omega arith in
     rw (is-word-of v s, lt-ltb v p h)
+
+-- and a number of 64 bits without it is a word
+pub word-nil : (v : ℕ) → v < 18446744073709551616 → word40 v ≡ 0 → v < p
+unfolding word40
+word-nil v h e = go (ltb v p) refl (rw (is-word-of v h) at e)
+  where
+    go : (t : Bool) → ltb v p ≡ t → cond {A = ℕ} (ltb v p) 0 40 ≡ 0 → v < p
+    go true q k = ltb-true v p q
+    go false q k = let z : _≡_ {A = ℕ} 40 0 = rw q at k in absurd (omega arith)
 
 fields-fine : (d q v : ℕ) → d ≤ 1 → q < p → v < p → fields40 d q v ≡ 0
 unfolding fields40
