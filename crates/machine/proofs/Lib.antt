@@ -4,6 +4,7 @@ pub mod Words
 pub mod RamLaws
 pub mod RamView
 pub mod Copies
+pub mod MemoryView
 pub mod Touched
 pub mod OpStack
 pub mod Bytes

@@ -55,13 +55,15 @@ u32sOf (suc zero) a b = u32 (a .opcode) (a .left) (a .right) ∷ []
 u32sOf (suc (suc n)) a b = u32 (a .opcode) (a .left) (a .right) ∷ u32 (b .opcode) (b .left) (b .right) ∷ []
 
 -- the n accesses from place i on
-unfoldable pub readsFrom : List ℕ → List ℕ → ℕ → ℕ → List Call
-readsFrom a v i zero = []
-readsFrom a v i (suc n) = ramRead (getD a i 0) (getD v i 0) ∷ readsFrom a v (i + 1) n
+unfoldable pub accessesFrom : (ℕ → ℕ → Call) → List ℕ → List ℕ → ℕ → ℕ → List Call
+accessesFrom f a v i zero = []
+accessesFrom f a v i (suc n) = f (getD a i 0) (getD v i 0) ∷ accessesFrom f a v (i + 1) n
 
-unfoldable pub writesFrom : List ℕ → List ℕ → ℕ → ℕ → List Call
-writesFrom a v i zero = []
-writesFrom a v i (suc n) = ramWrite (getD a i 0) (getD v i 0) ∷ writesFrom a v (i + 1) n
+abbrev pub readsFrom : List ℕ → List ℕ → ℕ → ℕ → List Call
+readsFrom = accessesFrom ramRead
+
+abbrev pub writesFrom : List ℕ → List ℕ → ℕ → ℕ → List Call
+writesFrom = accessesFrom ramWrite
 
 abbrev pub callsOf : Arrays → List Call
 callsOf e = u32sOf (e .u32s) (e .«u32_0») (e .«u32_1») ++ readsFrom (e .addresses) (e .values) 0 (e .reads) ++ writesFrom (e .addresses) (e .values) (e .reads) (e .writes)

@@ -11,6 +11,7 @@ pub mod EffectView
 pub mod Stack
 pub mod Control
 pub mod Memory
+pub mod MemoryView
 pub mod Hashing
 pub mod Arithmetic
 pub mod Bits

@@ -1,7 +1,7 @@
 use Prim.Native.Nat.{ℕ, _+_, _*_, _-_, _/_, _%_, _^_, _<_, _≤_}
 use native.Mathlib.Omega.{arith}
 use mathlib.Core.Path.{_≡_, refl, sym, ap, _∙_}
-use Rattle.machine.specs.EffectView.{decisionOf, effectOf, readsFrom, writesFrom}
+use Rattle.machine.specs.EffectView.{decisionOf, effectOf, accessesFrom}
 use Rattle.machine.proofs.effect.act.Statement.{statement}
 use Rattle.machine.proofs.effect.act.Tie as tie
 use Rattle.machine.proofs.effect.act.Reads as reads

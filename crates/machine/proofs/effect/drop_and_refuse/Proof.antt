@@ -1,4 +1,4 @@
-use Rattle.machine.specs.EffectView.{decisionOf, effectOf, readsFrom, writesFrom}
+use Rattle.machine.specs.EffectView.{decisionOf, effectOf, accessesFrom}
 use Prim.Native.Nat.{ℕ, _+_, _*_, _-_, _/_, _%_, _^_, _<_, _≤_}
 use native.Mathlib.Omega.{arith}
 use mathlib.Core.Path.{_≡_, refl, sym, ap, _∙_}

@@ -1,5 +1,5 @@
 use Rattle.machine.specs.EffectView.{u32sOf}
-use Rattle.machine.specs.EffectView.{decisionOf, effectOf, readsFrom, writesFrom}
+use Rattle.machine.specs.EffectView.{decisionOf, effectOf, accessesFrom}
 use Prim.Native.Nat.{ℕ, _+_, _*_, _-_, _/_, _%_, _^_, _<_, _≤_}
 use native.Mathlib.Omega.{arith}
 use mathlib.Core.Path.{_≡_, refl, sym, ap, _∙_}
@@ -19,7 +19,7 @@ act-requires : tie.Need-act-requires
 act-requires c κs = search needs
 
 returns : tie.Need-returns
-unfolding effectOf u32sOf readsFrom writesFrom
+unfolding effectOf u32sOf accessesFrom
 returns c = rw (c .act .ensures, c .before .nothing .ensures)
 
 pub puts-spec : {M : Type 1} → statement M

@@ -1,6 +1,6 @@
 use Rattle.machine.specs.EffectView.{u32sOf}
 use mathlib.Core.List.{append-nil}
-use Rattle.machine.specs.EffectView.{decisionOf, effectOf, readsFrom, writesFrom}
+use Rattle.machine.specs.EffectView.{decisionOf, effectOf, accessesFrom}
 use Prim.Native.Nat.{ℕ, _+_, _*_, _-_, _/_, _%_, _^_, _<_, _≤_}
 use native.Mathlib.Omega.{arith}
 use mathlib.Core.Path.{_≡_, refl, sym, ap, _∙_}
@@ -20,7 +20,7 @@ act-requires : tie.Need-act-requires
 act-requires c κs = search needs
 
 returns : tie.Need-returns
-unfolding effectOf readsFrom writesFrom
+unfolding effectOf accessesFrom
 returns c = rw (c .act .ensures, c .before .nothing .ensures) (simp append-nil)
 
 pub puts-u32-spec : {M : Type 1} → statement M
