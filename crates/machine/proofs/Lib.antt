@@ -16,3 +16,4 @@ pub mod FactsManyInOne
 pub mod Facts
 pub mod StepBytes
 pub mod ProvedTable
+pub mod Cancels

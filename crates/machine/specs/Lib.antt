@@ -25,3 +25,4 @@ pub mod Step
 pub mod HelperVariables
 pub mod Sound
 pub mod ProvedTable
+pub mod UnderflowIO
