@@ -13,7 +13,7 @@ use Rattle.machine.specs.Decide.{opcodeOf, argumentOf, effectOf, decideI
 use Rattle.machine.specs.PlaceA.{argument4}
 use Rattle.machine.specs.Sound.{Sound, Facts}
 use Rattle.machine.proofs.Words.{words-getD}
-use Rattle.machine.proofs.Rows.{Each, each-decode, words-allowed, place-allowed, argument-at}
+use Rattle.machine.proofs.Rows.{Each, gathered, each-decode, words-allowed, place-allowed, argument-at}
 use Rattle.machine.proofs.Acts.{Acts, acted, refusing, acts-map, acts-cond, acts-unless}
 use Rattle.machine.proofs.Does.{Does}
 use Rattle.machine.proofs.FactsStack as S
@@ -39,145 +39,54 @@ module _ (m : Machine) (s : Sound m) (here : m .state .pointer < length (m .code
 
   rows : Each (RowDoes m) table
   unfolding table effectOf
-  rows = (
-    λ n h l. counted (omega arith) (S.pop-does m s here n (words-allowed n h)),
-    (
-      λ n h l. counted (omega arith) (S.push-does m s here n l),
-      (
-        λ n h l. counted (omega arith) (S.divine-does m s here n (words-allowed n h)),
-        (
-          λ n h l. counted (omega arith) (S.pick-does m s here n (place-allowed n h)),
-          (
-            λ n h l. counted (omega arith) (S.place-does m s here n (place-allowed n h)),
-            (
-              λ n h l. counted (omega arith) (S.dup-does m s here n),
-              (
-                λ n h l. counted (omega arith) (S.swap-does m s here n),
-                (
-                  λ n h l. counted (omega arith) (C.halt-does m s here),
-                  (
-                    λ n h l. counted (omega arith) (C.nop-does m s here),
-                    (
-                      λ n h l. counted (omega arith) (C.skiz-does m s here),
-                      (
-                        λ n h l. counted (omega arith) (C.call-does m s here n l),
-                        (
-                          λ n h l. counted (omega arith) (C.return-does m s here),
-                          (
-                            λ n h l. counted (omega arith) (C.recurse-does m s here),
-                            (
-                              λ n h l. counted (omega arith) (C.recurse-or-return-does m s here),
-                              (
-                                λ n h l. counted (omega arith) (C.assert-does m s here),
-                                (
-                                  λ n h l. counted (omega arith) (M.read-mem-does m s here n (words-allowed n h)),
-                                  (
-                                    λ n h l. counted (omega arith) (M.write-mem-does m s here n (words-allowed n h)),
-                                    (
-                                      λ n h l. counted (omega arith) (H.hash-does m s here),
-                                      (
-                                        λ n h l. counted (omega arith) (H.assert-vector-does m s here),
-                                        (
-                                          λ n h l. counted (omega arith) (H.sponge-init-does m s here),
-                                          (
-                                            λ n h l. counted (omega arith) (H.sponge-absorb-does m s here),
-                                            (
-                                              λ n h l. counted (omega arith) (H.sponge-absorb-mem-does m s here),
-                                              (
-                                                λ n h l. counted (omega arith) (H.sponge-squeeze-does m s here),
-                                                (
-                                                  λ n h l. counted (omega arith) (A.add-does m s here),
-                                                  (
-                                                    λ n h l. counted (omega arith) (A.addi-does m s here n),
-                                                    (
-                                                      λ n h l. counted (omega arith) (A.mul-does m s here),
-                                                      (
-                                                        λ n h l. counted (omega arith) (A.invert-does m s here),
-                                                        (
-                                                          λ n h l. counted (omega arith) (A.eq-does m s here),
-                                                          (
-                                                            λ n h l. counted (omega arith) (B.split-does m s here),
-                                                            (
-                                                              λ n h l. counted (omega arith) (B.lt-does m s here),
-                                                              (
-                                                                λ n h l. counted (omega arith) (B.and-does m s here),
-                                                                (
-                                                                  λ n h l. counted (omega arith) (B.xor-does m s here),
-                                                                  (
-                                                                    λ n h l. counted (omega arith) (B.log-2-floor-does m s here),
-                                                                    (
-                                                                      λ n h l. counted (omega arith) (B.pow-does m s here),
-                                                                      (
-                                                                        λ n h l. counted (omega arith) (B.div-mod-does m s here),
-                                                                        (
-                                                                          λ n h l. counted (omega arith) (B.pop-count-does m s here),
-                                                                          (
-                                                                            λ n h l. counted (omega arith) (A.xx-add-does m s here),
-                                                                            (
-                                                                              λ n h l. counted (omega arith) (A.xx-mul-does m s here),
-                                                                              (
-                                                                                λ n h l. counted (omega arith) (A.x-invert-does m s here),
-                                                                                (
-                                                                                  λ n h l. counted (omega arith) (A.xb-mul-does m s here),
-                                                                                  (
-                                                                                    λ n h l. counted (omega arith) (M.read-io-does m s here n),
-                                                                                    (
-                                                                                      λ n h l. counted (omega arith) (M.write-io-does m s here n (words-allowed n h)),
-                                                                                      (
-                                                                                        λ n h l. counted (omega arith) (J.merkle-step-does m s here),
-                                                                                        (
-                                                                                          λ n h l. counted (omega arith) (J.merkle-step-mem-does m s here),
-                                                                                          (
-                                                                                            λ n h l. counted (omega arith) (J.xx-dot-step-does m s here),
-                                                                                            (
-                                                                                              λ n h l. counted (omega arith) (J.xb-dot-step-does m s here),
-                                                                                              tt,
-                                                                                            ),
-                                                                                          ),
-                                                                                        ),
-                                                                                      ),
-                                                                                    ),
-                                                                                  ),
-                                                                                ),
-                                                                              ),
-                                                                            ),
-                                                                          ),
-                                                                        ),
-                                                                      ),
-                                                                    ),
-                                                                  ),
-                                                                ),
-                                                              ),
-                                                            ),
-                                                          ),
-                                                        ),
-                                                      ),
-                                                    ),
-                                                  ),
-                                                ),
-                                              ),
-                                            ),
-                                          ),
-                                        ),
-                                      ),
-                                    ),
-                                  ),
-                                ),
-                              ),
-                            ),
-                          ),
-                        ),
-                      ),
-                    ),
-                  ),
-                ),
-              ),
-            ),
-          ),
-        ),
-      ),
-    ),
-  )
+  rows =
+      gathered (RowDoes m) table
+      (λ n h l. counted (omega arith) (S.pop-does m s here n (words-allowed n h)))
+      (λ n h l. counted (omega arith) (S.push-does m s here n l))
+      (λ n h l. counted (omega arith) (S.divine-does m s here n (words-allowed n h)))
+      (λ n h l. counted (omega arith) (S.pick-does m s here n (place-allowed n h)))
+      (λ n h l. counted (omega arith) (S.place-does m s here n (place-allowed n h)))
+      (λ n h l. counted (omega arith) (S.dup-does m s here n))
+      (λ n h l. counted (omega arith) (S.swap-does m s here n))
+      (λ n h l. counted (omega arith) (C.halt-does m s here))
+      (λ n h l. counted (omega arith) (C.nop-does m s here))
+      (λ n h l. counted (omega arith) (C.skiz-does m s here))
+      (λ n h l. counted (omega arith) (C.call-does m s here n l))
+      (λ n h l. counted (omega arith) (C.return-does m s here))
+      (λ n h l. counted (omega arith) (C.recurse-does m s here))
+      (λ n h l. counted (omega arith) (C.recurse-or-return-does m s here))
+      (λ n h l. counted (omega arith) (C.assert-does m s here))
+      (λ n h l. counted (omega arith) (M.read-mem-does m s here n (words-allowed n h)))
+      (λ n h l. counted (omega arith) (M.write-mem-does m s here n (words-allowed n h)))
+      (λ n h l. counted (omega arith) (H.hash-does m s here))
+      (λ n h l. counted (omega arith) (H.assert-vector-does m s here))
+      (λ n h l. counted (omega arith) (H.sponge-init-does m s here))
+      (λ n h l. counted (omega arith) (H.sponge-absorb-does m s here))
+      (λ n h l. counted (omega arith) (H.sponge-absorb-mem-does m s here))
+      (λ n h l. counted (omega arith) (H.sponge-squeeze-does m s here))
+      (λ n h l. counted (omega arith) (A.add-does m s here))
+      (λ n h l. counted (omega arith) (A.addi-does m s here n))
+      (λ n h l. counted (omega arith) (A.mul-does m s here))
+      (λ n h l. counted (omega arith) (A.invert-does m s here))
+      (λ n h l. counted (omega arith) (A.eq-does m s here))
+      (λ n h l. counted (omega arith) (B.split-does m s here))
+      (λ n h l. counted (omega arith) (B.lt-does m s here))
+      (λ n h l. counted (omega arith) (B.and-does m s here))
+      (λ n h l. counted (omega arith) (B.xor-does m s here))
+      (λ n h l. counted (omega arith) (B.log-2-floor-does m s here))
+      (λ n h l. counted (omega arith) (B.pow-does m s here))
+      (λ n h l. counted (omega arith) (B.div-mod-does m s here))
+      (λ n h l. counted (omega arith) (B.pop-count-does m s here))
+      (λ n h l. counted (omega arith) (A.xx-add-does m s here))
+      (λ n h l. counted (omega arith) (A.xx-mul-does m s here))
+      (λ n h l. counted (omega arith) (A.x-invert-does m s here))
+      (λ n h l. counted (omega arith) (A.xb-mul-does m s here))
+      (λ n h l. counted (omega arith) (M.read-io-does m s here n))
+      (λ n h l. counted (omega arith) (M.write-io-does m s here n (words-allowed n h)))
+      (λ n h l. counted (omega arith) (J.merkle-step-does m s here))
+      (λ n h l. counted (omega arith) (J.merkle-step-mem-does m s here))
+      (λ n h l. counted (omega arith) (J.xx-dot-step-does m s here))
+      (λ n h l. counted (omega arith) (J.xb-dot-step-does m s here))
 
 -- an effect that is acted: its row, and that the row's instruction does it
 pub record Done (m : Machine) (e : Effect) : Type 0 where

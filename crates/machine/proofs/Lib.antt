@@ -28,3 +28,4 @@ pub mod StepBytes
 pub mod ProvedTable
 pub mod Step
 pub mod Run
+pub mod Cancels

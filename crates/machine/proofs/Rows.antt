@@ -17,6 +17,18 @@ abbrev pub Each : (Row → Type 0) → List Row → Type 0
 Each P [] = Unit {0}
 Each P (r ∷ rs) = P r × Each P rs
 
+-- Q from P of each row, one after the other
+abbrev OfEach : (Row → Type 0) → List Row → Type 0 → Type 0
+OfEach P [] Q = Q
+OfEach P (r ∷ rs) Q = P r → OfEach P rs Q
+
+gather : (P : Row → Type 0) (rs : List Row) (Q : Type 0) → (Each P rs → Q) → OfEach P rs Q
+gather P [] Q f = f tt
+gather P (r ∷ rs) Q f = λ h. gather P rs Q (λ k. f (h, k))
+
+pub gathered : (P : Row → Type 0) (rs : List Row) → OfEach P rs (Each P rs)
+gathered P rs = gather P rs (Each P rs) (λ k. k)
+
 each-in : (P : Row → Type 0) (rs : List Row) (op : ℕ) (q : Row) → Each P rs → decodeIn rs op ≡ known q → P q
 each-in P [] op q h e = let z : _≡_ {A = ℕ} 0 1 = cc in absurd (omega arith)
 each-in P (r ∷ rs) op q h e = go (eqb (r .opcode) op) e (each-in P rs op q (h .1))

@@ -29,3 +29,4 @@ pub mod Step
 pub mod HelperVariables
 pub mod Sound
 pub mod ProvedTable
+pub mod UnderflowIO
