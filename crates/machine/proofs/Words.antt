@@ -115,8 +115,3 @@ zeros-fine s i zero h = refl
 zeros-fine s i (suc n) h =
     let z : getD s (i + n) 0 ≡ 0 = h (i + n) (omega arith) (omega arith) in
     first-zero _ _ (zeros-fine s i n (λ k l m. h k l (omega arith))) ∙ above-not (getD s (i + n) 0) 0 5 (omega arith)
-
--- words by their places
-pub words-from : (s : List ℕ) → ((k : ℕ) → getD s k 0 < p) → Words s
-words-from [] h = none
-words-from (x ∷ s) h = more (h 0) (words-from s (λ k. h (suc k)))

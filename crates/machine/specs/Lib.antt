@@ -8,6 +8,7 @@ pub mod Instruction
 pub mod Machine
 pub mod Effect
 pub mod EffectView
+pub mod HashedView
 pub mod Stack
 pub mod Control
 pub mod Memory

@@ -5,6 +5,7 @@ use mathlib.Core.Bool.{false}
 use mathlib.Core.List.{List, [], _∷_, _++_}
 use lib.ListN.{length, replicate}
 use Rattle.field.specs.Base.{p}
+use Rattle.tip5.specs.SplitAndLookup.{lookupOf}
 use Rattle.machine.specs.Refusal.{Refusal, instructionPointerOverflow, opStackTooShallow, failedU32Conversion, logarithmOfZero}
 use Rattle.machine.specs.Machine.{Machine, machine, top}
 use Rattle.machine.specs.Effect.{Call, u32, ramRead, Decision, acts, refuses, drops}
@@ -20,6 +21,8 @@ pub data Answer : Type 0 where
   leaves : ℕ → List ℕ → List Call → Answer
   -- the step is refused: with what, and the depth then
   turnsDown : Refusal → ℕ → Answer
+  -- a number
+  is : ℕ → Answer
 
 -- a stack of 32 words, so many of them used, with these on top
 unfoldable pub standing : ℕ → List ℕ → List ℕ
@@ -107,6 +110,9 @@ provedTable =
     ∷ line (stepping 0 (asked 2 0 17 (0 ∷ []))) (turnsDown instructionPointerOverflow 16)
     -- X^2 times X is X - 1
     ∷ line (stepping 3 (asked 74 0 22 (0 ∷ 0 ∷ 1 ∷ 0 ∷ 1 ∷ 0 ∷ []))) (leaves 19 ((p - 1) ∷ 1 ∷ 0 ∷ []) [])
+    -- lookup 1 is 7, 255 is 255
+    ∷ line (is (lookupOf 1)) (is 7)
+    ∷ line (is (lookupOf 255)) (is 255)
     ∷ []
 
 abbrev pub seenIn : List Line → List Answer
