@@ -1,5 +1,9 @@
 // The machine: its instructions, its calls and their records.
 pub mod arithmetic;
+pub mod bitwise;
+pub mod control;
 pub mod effect;
+pub mod input_output;
 pub mod refusal;
+pub mod stack;
 pub mod vm;
