@@ -3,3 +3,4 @@ pub mod Choice
 pub mod Words
 pub mod Bits
 pub mod Window
+pub mod Slots

@@ -7,6 +7,7 @@ ghost use Rattle.machine.specs.EffectView.{decisionOf, jumpTopOf};
 ghost use Rattle.machine.specs.Control.{haltOf, nopOf, skizOf, callOf, returnOf, recurseOf, recurseOrReturnOf, assertOf};
 use crate::effect;
 use crate::effect::Decided;
+use crate::instruction;
 use crate::refusal::InstructionError;
 
 pub fn halt() -> Decided
@@ -21,6 +22,24 @@ pub fn nop() -> Decided
     ensures { λ r. ⌜ decisionOf r ≡ nopOf ⌝ }
 {
     effect::take_off(0)
+}
+
+// On 0 the instruction in the next slot is skipped. Where there is no such slot the word stays dropped.
+pub fn skiz(opcodes: &[u64], pointer: u64, w: [u64; 16]) -> Decided
+    requires { ⌜ pointer < length (now opcodes) ⌝ }
+    ensures { λ r. ⌜ decisionOf r ≡ skizOf (now (opcodes .entry)) pointer w ⌝ }
+{
+    if w[15] == 0 {
+        let next = pointer + 1;
+        let at = next as usize;
+        if at < opcodes.len() {
+            effect::go_to(1, next + instruction::size(opcodes[at]))
+        } else {
+            effect::drop_and_refuse(InstructionError::InstructionPointerOverflow)
+        }
+    } else {
+        effect::take_off(1)
+    }
 }
 
 pub fn call(pointer: u64, destination: u64) -> Decided

@@ -4,6 +4,7 @@ pub mod bitwise;
 pub mod control;
 pub mod effect;
 pub mod input_output;
+pub mod instruction;
 pub mod refusal;
 pub mod stack;
 pub mod vm;
