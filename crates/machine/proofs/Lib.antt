@@ -29,3 +29,6 @@ pub mod ProvedTable
 pub mod Step
 pub mod Run
 pub mod Cancels
+pub mod Bits
+pub mod Window
+pub mod Slots

@@ -11,6 +11,8 @@ use Rattle.machine.specs.declared.effect.Verdict.the-variants.{Acts, Ref
 use Rattle.machine.specs.Choice.{cond}
 use Rattle.machine.specs.Refusal.{refusalOf}
 use Rattle.machine.specs.Effect.{Call, u32, ramRead, ramWrite, Next, onward, to, JumpChange, stays, pushes, pops, keeps, Effect, Decision, acts, refuses, drops}
+use lib.Dec.{ltb}
+use Rattle.machine.specs.Machine.{JumpTop, empty, entry}
 
 -- what changes nothing but pointer and clock
 abbrev pub noU32 : U32Call
@@ -92,3 +94,12 @@ verdictOf (Drops r) e = drops (refusalOf r)
 unfoldable pub decisionOf : Decided → Decision
 unfolding effectOf
 decisionOf d = verdictOf (d .verdict) (effectOf (d .effect))
+
+-- takes n words off and puts these out; all else as it was
+abbrev pub writing : ℕ → List ℕ → Effect
+writing n ws =
+    record { pops = n; words = []; next = onward; halts = false; jump = stays; publics = 0; secrets = 0; digests = 0; output = ws; sponge = keeps; calls = [] }
+
+-- the top of a jump stack with so many entries, the last of them this
+abbrev pub jumpTopOf : ℕ → ℕ → ℕ → JumpTop
+jumpTopOf jumps origin destination = cond (ltb 0 jumps) (entry origin destination) empty

@@ -1,11 +1,16 @@
 // What an instruction does, with arrays and counts; specs/EffectView.antt says which effect it stands for.
 ghost use mathlib.Core.Path.{_≡_};
 ghost use mathlib.Core.List.{[] as Nil, _∷_, _++_};
-ghost use lib.ListN.{take};
-ghost use Rattle.machine.specs.Effect.{acts, refuses, drops, puts as putting, recording};
-ghost use Rattle.machine.specs.EffectView.{noArrays, decisionOf, effectOf, u32sOf, readsFrom, writesFrom};
+ghost use Prim.Native.Nat.{_+_, _≤_};
+ghost use lib.ListN.{length, take, drop};
+ghost use Rattle.machine.specs.Effect.{acts, refuses, drops, puts as putting, recording, to, stays, pushes, pops as popped};
+ghost use Rattle.machine.specs.EffectView.{noArrays, decisionOf, effectOf, u32sOf, readsFrom, writesFrom, writing};
 ghost use Rattle.machine.specs.Refusal.{refusalOf};
+ghost use Rattle.machine.specs.Stack.{divined};
+ghost use Rattle.machine.specs.InputOutput.{taken};
+ghost use Rattle.machine.specs.Control.{goes};
 use crate::refusal::InstructionError;
+use tip5::words::copy;
 
 pub struct Effect {
     // How many words it takes off the op stack, and which it puts on, the first lowest.
@@ -186,5 +191,100 @@ pub fn puts_ram(
     e.writes = writes;
     e.addresses = addresses;
     e.values = values;
+    act(e)
+}
+
+// All sixteen words on top change.
+pub fn put16(words: [u64; 16]) -> Decided
+    ensures { λ r. ⌜ decisionOf r ≡ acts (putting 16 words) ⌝ }
+{
+    puts(16, 16, words)
+}
+
+// Takes n words off; all else as it was.
+pub fn take_off(n: usize) -> Decided
+    ensures { λ r. ⌜ decisionOf r ≡ acts (putting n Nil) ⌝ }
+{
+    puts(n, 0, [0u64; 16])
+}
+
+// ---- inputs and output
+
+// The n words of s from place at on, and zeros behind them.
+pub fn words_from(s: &[u64], at: usize, n: usize) -> [u64; 16]
+    requires { ⌜ (at + n ≤ length (now s)) × (n ≤ 16) ⌝ }
+    ensures { λ r. ⌜ take n r ≡ take n (drop at (now (s .entry))) ⌝ }
+{
+    let mut words = [0u64; 16];
+    copy(&mut words, 0, &s[at..], n);
+    words
+}
+
+// Puts n words on that are taken from the public input.
+pub fn take_public(n: usize, words: [u64; 16]) -> Decided
+    ensures { λ r. ⌜ decisionOf r ≡ acts (taken n words) ⌝ }
+{
+    let mut e = nothing();
+    e.count = n;
+    e.words = words;
+    e.publics = n;
+    act(e)
+}
+
+// Puts n words on that are taken from the secret input.
+pub fn take_secret(n: usize, words: [u64; 16]) -> Decided
+    ensures { λ r. ⌜ decisionOf r ≡ acts (divined n words) ⌝ }
+{
+    let mut e = nothing();
+    e.count = n;
+    e.words = words;
+    e.secrets = n;
+    act(e)
+}
+
+// Takes n words off and puts n words out.
+pub fn put_out(n: usize, output: [u64; 5]) -> Decided
+    ensures { λ r. ⌜ decisionOf r ≡ acts (writing n (take n output)) ⌝ }
+{
+    let mut e = nothing();
+    e.pops = n;
+    e.outputs = n;
+    e.output = output;
+    act(e)
+}
+
+// ---- pointer and jump stack
+
+// Takes n words off and goes to target.
+pub fn go_to(n: usize, target: u64) -> Decided
+    ensures { λ r. ⌜ decisionOf r ≡ acts (goes n (to target) stays) ⌝ }
+{
+    let mut e = nothing();
+    e.pops = n;
+    e.jumps = true;
+    e.target = target;
+    act(e)
+}
+
+// Goes to target with origin and target on the jump stack.
+pub fn call_to(origin: u64, target: u64) -> Decided
+    ensures { λ r. ⌜ decisionOf r ≡ acts (goes 0 (to target) (pushes origin target)) ⌝ }
+{
+    let mut e = nothing();
+    e.jumps = true;
+    e.target = target;
+    e.calls = true;
+    e.origin = origin;
+    act(e)
+}
+
+// Goes back to origin, off the jump stack.
+pub fn return_to(origin: u64) -> Decided
+    ensures { λ r. ⌜ decisionOf r ≡ acts (goes 0 (to origin) popped) ⌝ }
+{
+    let mut e = nothing();
+    e.jumps = true;
+    e.target = origin;
+    e.returns = true;
     act(e)
 }

@@ -1,9 +1,14 @@
 // The machine: its instructions, its calls and their records.
 pub mod arithmetic;
+pub mod bitwise;
+pub mod control;
 pub mod effect;
 pub mod hashing;
 pub mod memory;
 pub mod op_stack;
 pub mod ram;
+pub mod input_output;
+pub mod instruction;
 pub mod refusal;
+pub mod stack;
 pub mod vm;
