@@ -10,3 +10,4 @@ pub mod Bytes
 pub mod Records
 pub mod Preserved
 pub mod PlaceA
+pub mod TableLaws

@@ -1,6 +1,7 @@
 // The machine: its instructions, its calls and their records.
 pub mod arithmetic;
 pub mod effect;
+pub mod instruction;
 pub mod op_stack;
 pub mod ram;
 pub mod refusal;
