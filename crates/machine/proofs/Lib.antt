@@ -32,3 +32,4 @@ pub mod Cancels
 pub mod Bits
 pub mod Window
 pub mod Slots
+pub mod TableLaws

@@ -5,6 +5,7 @@ pub mod Words
 pub mod Ram
 pub mod RamView
 pub mod Instruction
+pub mod InstructionView
 pub mod Machine
 pub mod Effect
 pub mod EffectView
