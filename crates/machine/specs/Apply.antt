@@ -71,12 +71,13 @@ abbrev pub spongeAfter : Sponge → SpongeChange → Sponge
 spongeAfter s keeps = s
 spongeAfter s (becomes t) = t
 
-unfoldable pub performed : Machine → Effect → Machine
-performed m e =
+-- the machine after an effect, with this pointer and this sponge
+abbrev pub performedAt : Machine → Effect → ℕ → Sponge → Machine
+performedAt m e q s =
     machine
     (record {
       clock = m .state .clock + 1;
-      pointer = pointerAfter m (e .next);
+      pointer = q;
       depth = depthAfter m e;
       jumps = jumpsAfter (m .state .jumps) (e .jump);
       cells = ramAfter m e .count;
@@ -84,7 +85,7 @@ performed m e =
       publics = m .state .publics + e .publics;
       secrets = m .state .secrets + e .secrets;
       digests = m .state .digests + e .digests;
-      sponge = spongeAfter (m .state .sponge) (e .sponge);
+      sponge = s;
       halted = e .halts;
     })
     (m .code)
@@ -96,6 +97,9 @@ performed m e =
       values = ramAfter m e .values;
       output = put (m .memory .output) (m .state .outputs) (e .output);
     })
+
+unfoldable pub performed : Machine → Effect → Machine
+performed m e = performedAt m e (pointerAfter m (e .next)) (spongeAfter (m .state .sponge) (e .sponge))
 
 -- skiz refused: the top word dropped and 0, all else as handed in
 unfoldable pub dropped : Machine → Machine

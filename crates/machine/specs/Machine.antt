@@ -32,6 +32,12 @@ pub record Machine : Type 0 where
 abbrev pub machine : VMState → Code → Memory → Machine
 machine s c m = record { state = s; code = c; memory = m }
 
+abbrev pub code : List ℕ → List ℕ → List ℕ → List ℕ → List ℕ → Code
+code o a u s d = record { opcodes = o; arguments = a; public = u; secret = s; digests = d }
+
+abbrev pub memory : List ℕ → List ℕ → List ℕ → List ℕ → List ℕ → List ℕ → Memory
+memory s o d a v w = record { opStack = s; origins = o; destinations = d; addresses = a; values = v; output = w }
+
 -- ---- op stack
 
 -- the top sixteen words, bottom first: ST15 to ST0
