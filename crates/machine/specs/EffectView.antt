@@ -3,6 +3,7 @@ use Prim.Native.Nat.{ℕ, zero, suc, _+_}
 use mathlib.Core.Bool.{Bool, true, false}
 use mathlib.Core.List.{List, [], _∷_, _++_}
 use lib.ListN.{getD, take, replicate}
+use lib.Dec.{ltb}
 use Rattle.machine.specs.declared.effect.Effect.{Effect as Arrays}
 use Rattle.machine.specs.declared.effect.U32Call.{U32Call}
 use Rattle.machine.specs.declared.effect.Decided.{Decided}
@@ -10,9 +11,8 @@ use Rattle.machine.specs.declared.effect.Verdict.{Verdict}
 use Rattle.machine.specs.declared.effect.Verdict.the-variants.{Acts, Refuses, Drops}
 use Rattle.machine.specs.Choice.{cond}
 use Rattle.machine.specs.Refusal.{refusalOf}
-use Rattle.machine.specs.Effect.{Call, u32, ramRead, ramWrite, Next, onward, to, JumpChange, stays, pushes, pops, keeps, Effect, Decision, acts, refuses, drops}
-use lib.Dec.{ltb}
 use Rattle.machine.specs.Machine.{JumpTop, empty, entry}
+use Rattle.machine.specs.Effect.{Call, u32, ramRead, ramWrite, Next, onward, to, JumpChange, stays, pushes, pops, keeps, Effect, Decision, acts, refuses, drops}
 
 -- what changes nothing but pointer and clock
 abbrev pub noU32 : U32Call

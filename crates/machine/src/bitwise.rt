@@ -5,7 +5,7 @@ ghost use Prim.Native.Nat.{_<_, _/_, _%_};
 ghost use Rattle.machine.specs.Effect.{acts, refuses, recording, u32 as called};
 ghost use Rattle.machine.specs.EffectView.{decisionOf};
 ghost use Rattle.machine.specs.Refusal.{failedU32Conversion};
-ghost use Rattle.machine.specs.Bits.{onesOf, highestOf, bothOf, eitherOf};
+ghost use Rattle.machine.specs.Bits.{onesOf, highestOf};
 ghost use Rattle.machine.specs.Bitwise.{splitOf, ltOf, andOf, xorOf, log2FloorOf, powOf, divModOf, popCountOf};
 use crate::effect;
 use crate::effect::Decided;

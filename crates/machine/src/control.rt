@@ -1,6 +1,6 @@
 // The instructions that say what comes next. w is the top sixteen words, bottom first: ST i is w[15 - i].
 ghost use mathlib.Core.Path.{_≡_};
-ghost use Prim.Native.Nat.{_+_, _<_};
+ghost use Prim.Native.Nat.{_<_};
 ghost use lib.ListN.{length};
 ghost use Rattle.field.specs.Base.{p};
 ghost use Rattle.machine.specs.EffectView.{decisionOf, jumpTopOf};
