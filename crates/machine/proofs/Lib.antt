@@ -14,6 +14,7 @@ pub mod PlaceA
 pub mod Seen
 pub mod Acts
 pub mod Rows
+pub mod DecideView
 pub mod Does
 pub mod FactsStack
 pub mod Traces
@@ -31,5 +32,4 @@ pub mod Run
 pub mod Cancels
 pub mod Bits
 pub mod Window
-pub mod Slots
 pub mod TableLaws

@@ -30,5 +30,6 @@ pub mod Open
 pub mod Step
 pub mod HelperVariables
 pub mod Sound
+pub mod DecideView
 pub mod ProvedTable
 pub mod UnderflowIO

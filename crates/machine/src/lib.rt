@@ -2,6 +2,7 @@
 pub mod arithmetic;
 pub mod bitwise;
 pub mod control;
+pub mod decide;
 pub mod effect;
 pub mod hashing;
 pub mod input_output;

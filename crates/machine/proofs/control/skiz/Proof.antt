@@ -7,7 +7,7 @@ use denote.Ref.{now}
 use lib.ListN.{getD}
 use Rattle.machine.specs.Refusal.{refusalOf}
 use Rattle.machine.specs.Control.{skizOf}
-use Rattle.machine.proofs.Slots.{size-small}
+use Rattle.machine.proofs.Rows.{size-small}
 use Rattle.machine.proofs.control.skiz.Statement.{statement}
 use Rattle.machine.proofs.control.skiz.Tie as tie
 
