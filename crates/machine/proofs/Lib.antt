@@ -8,5 +8,6 @@ pub mod Touched
 pub mod OpStack
 pub mod Bytes
 pub mod Records
+pub mod Logged
 pub mod Preserved
 pub mod PlaceA
