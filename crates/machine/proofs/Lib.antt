@@ -9,6 +9,7 @@ pub mod Touched
 pub mod OpStack
 pub mod Bytes
 pub mod Records
+pub mod Logged
 pub mod Preserved
 pub mod PlaceA
 pub mod Seen

@@ -25,6 +25,7 @@ pub mod Apply
 pub mod Copied
 pub mod Bytes
 pub mod Records
+pub mod Logged
 pub mod PlaceA
 pub mod Open
 pub mod Step

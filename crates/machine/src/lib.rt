@@ -1,6 +1,7 @@
 // The machine: its instructions, its calls and their records.
 pub mod arithmetic;
 pub mod bitwise;
+pub mod calls;
 pub mod control;
 pub mod decide;
 pub mod effect;
