@@ -1,21 +1,24 @@
 -- What the code that decides relies on, and which of its two ways an instruction takes.
-use Prim.Native.Nat.{ℕ, _≤_, _<_}
+use Prim.Native.Nat.{ℕ, _*_, _≤_, _<_}
 use mathlib.Core.Path.{_≡_}
 use mathlib.Core.Bool.{Bool, true, false}
 use mathlib.Core.List.{List, [], _∷_}
 use lib.ListN.{length, getD, take, drop}
 use lib.Dec.{eqb}
 use Rattle.field.specs.Base.{p}
+use Rattle.tip5.specs.declared.sponge.Sponge.{Sponge}
 use Rattle.machine.specs.declared.effect.Decided.{Decided}
+use Rattle.machine.specs.declared.hashing.Hashed.{Hashed}
 use Rattle.machine.specs.Choice.{cond}
 use Rattle.machine.specs.Words.{Words}
 use Rattle.machine.specs.Ram.{Cells}
 use Rattle.machine.specs.Refusal.{plainly}
 use Rattle.machine.specs.Instruction.{Instruction, Row, Decoded, known, unknown, decode}
-use Rattle.machine.specs.Machine.{Machine, JumpTop, ram, jumpTop, publicLeft, secretLeft}
+use Rattle.machine.specs.Machine.{Machine, JumpTop, ram, jumpTop, publicLeft, secretLeft, digestsLeft}
 use Rattle.machine.specs.Machine as M
 use Rattle.machine.specs.Effect.{Decision, refuses}
 use Rattle.machine.specs.EffectView.{decisionOf}
+use Rattle.machine.specs.HashedView.{hashedOf}
 use Rattle.machine.specs.PlaceA.{argument4}
 use Rattle.machine.specs.Decide.{effectOf, opcodeOf, argumentOf}
 use Rattle.machine.specs.Sound.{Sound}
@@ -85,3 +88,33 @@ pub record Acted (h : Handed) (r : Decided) : Type 0 where
 abbrev pub handed : ℕ → ℕ → List ℕ → ℕ → List ℕ → List ℕ → ℕ → List ℕ → ℕ → JumpTop → Cells → Handed
 handed op n w q o u us s ss j c =
     record { opcode = op; argument = n; top = w; pointer = q; opcodes = o; public = u; publics = us; secret = s; secrets = ss; jump = j; cells = c }
+
+-- ---- instructions with a trace or the sponge
+
+-- what one is handed: the top sixteen words, the sponge, the secret digests, the cells
+pub record HandedHash : Type 0 where
+  pub opcode : ℕ
+  pub top : List ℕ
+  pub sponge : Sponge
+  pub digests : List ℕ
+  pub taken : ℕ
+  pub cells : Cells
+
+abbrev pub handedHash : ℕ → List ℕ → Sponge → List ℕ → ℕ → Cells → HandedHash
+handedHash op w s d n c = record { opcode = op; top = w; sponge = s; digests = d; taken = n; cells = c }
+
+pub record ReliableHash (h : HandedHash) : Type 0 where
+  pub words : Words (h .top)
+  pub digests : 5 * h .taken ≤ length (h .digests)
+  pub addresses : h .cells .count ≤ length (h .cells .addresses)
+  pub values : h .cells .count ≤ length (h .cells .values)
+  pub hashing : hashes (h .opcode) ≡ true
+
+pub record ShowsHash (m : Machine) (h : HandedHash) : Type 0 where
+  pub top : M.top m ≡ h .top
+  pub sponge : m .state .sponge ≡ h .sponge
+  pub digests : digestsLeft m ≡ drop (5 * h .taken) (h .digests)
+  pub cells : ram m ≡ h .cells
+
+pub record ActedHash (h : HandedHash) (r : Hashed) : Type 0 where
+  pub is : (n : ℕ) (m : Machine) → ShowsHash m h → hashedOf r ≡ actIn (decode (h .opcode)) n m

@@ -32,5 +32,6 @@ pub mod Step
 pub mod HelperVariables
 pub mod Sound
 pub mod DecideView
+pub mod StepView
 pub mod ProvedTable
 pub mod UnderflowIO
