@@ -11,3 +11,4 @@ pub mod Records
 pub mod Preserved
 pub mod PlaceA
 pub mod TableLaws
+pub mod ChecksLaws
