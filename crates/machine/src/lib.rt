@@ -2,6 +2,7 @@
 pub mod arithmetic;
 pub mod bitwise;
 pub mod calls;
+pub mod checks;
 pub mod control;
 pub mod decide;
 pub mod effect;
