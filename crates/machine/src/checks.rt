@@ -36,6 +36,7 @@ pub fn differ(a: usize, b: usize, n: u64) -> u64
     if a == b { 0 } else { n }
 }
 
+// The lesser of two.
 fn least(a: usize, b: usize) -> usize
     ensures { λ r. ⌜ r ≡ min a b ⌝ }
 {
@@ -63,6 +64,7 @@ fn past(count: usize, most: usize, rest: u64) -> u64
     if most < count { 5 } else { rest }
 }
 
+// Program and inputs: an argument for each opcode, and digests of five words.
 fn code_lengths(
     opcodes: &[u64],
     arguments: &[u64],
@@ -80,6 +82,7 @@ fn code_lengths(
     longer(slots, longer(args, inputs))
 }
 
+// RAM: a value for each address.
 fn cell_lengths(addresses: &[u64], values: &[u64]) -> u64
     ensures { λ r. ⌜ r ≡ cells1 (cellsOf 0 (now (addresses .entry)) (now (values .entry))) ⌝ }
 {
@@ -88,6 +91,7 @@ fn cell_lengths(addresses: &[u64], values: &[u64]) -> u64
     longer(a, longer(v, differ(a, v, 1)))
 }
 
+// What is lent to be changed; the op stack has at least sixteen words.
 fn memory_lengths(
     op_stack: &[u64],
     origins: &[u64],
@@ -138,6 +142,7 @@ fn used_words(s: &[u64], n: usize) -> u64
     words_below(s, least(n, s.len()))
 }
 
+// Program and inputs are used as a whole.
 fn code_words(arguments: &[u64], public: &[u64], secret: &[u64], digests: &[u64]) -> u64
     ensures { λ r. ⌜ r ≡ code2 (code Nil (now (arguments .entry)) (now (public .entry)) (now (secret .entry)) (now (digests .entry))) ⌝ }
 {
@@ -151,12 +156,14 @@ fn code_words(arguments: &[u64], public: &[u64], secret: &[u64], digests: &[u64]
     )
 }
 
+// RAM cells below the count.
 fn cell_words(addresses: &[u64], values: &[u64], count: usize) -> u64
     ensures { λ r. ⌜ r ≡ cells2 (cellsOf count (now (addresses .entry)) (now (values .entry))) ⌝ }
 {
     first(used_words(addresses, count), used_words(values, count))
 }
 
+// The words of a sponge that is not set are looked at too.
 fn register_words(sponge: [u64; 16], pointer: u64) -> u64
     ensures { λ r. ⌜ r ≡ firstOf (wordsOf sponge 16) (wordOf2 pointer) ⌝ }
 {
@@ -250,6 +257,7 @@ fn twice(addresses: &[u64], count: usize) -> u64
     0
 }
 
+// The count is tried first, so that no address beyond the slice is looked for.
 fn used_cells(addresses: &[u64], count: usize) -> u64
     ensures { λ r. ⌜ r ≡ cells5 (cellsOf count (now (addresses .entry)) Nil) ⌝ }
 {
@@ -280,6 +288,7 @@ fn unused_places(
     first(unused_words(op_stack, state.depth), from)
 }
 
+// How much is taken of each input; a digest is five words.
 fn inputs_taken(state: VMState, public: &[u64], secret: &[u64], digests: &[u64], rest: u64) -> u64
     ensures { λ r. ⌜ r ≡ firstOf (aboveOf (state .publics) (length (now (public .entry))) 5) (firstOf (aboveOf (state .secrets) (length (now (secret .entry))) 5)
         (firstOf (aboveOf (state .digests) (length (now (digests .entry)) / 5) 5) rest)) ⌝ }
@@ -303,7 +312,8 @@ fn counts(state: VMState, op_stack: &[u64], origins: &[u64], output: &[u64], res
 }
 
 // Place A of run and of helper variables; a step's has check_buffer before it. The work, in words read: opcodes, inputs
-// and stacks once, arguments twice, the n used RAM cells twice, and n (n - 1) / 2 addresses to see that none stands twice.
+// and stacks once, arguments twice, n used RAM cells twice, and n (n - 1) / 2 addresses to see that none stands twice. It is
+// linear but for these.
 pub fn check_machine(
     state: VMState,
     opcodes: &[u64],
