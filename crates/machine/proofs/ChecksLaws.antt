@@ -13,8 +13,7 @@ use Rattle.machine.specs.Words.{wordOf2, wordsOf, zerosFrom}
 use Rattle.machine.specs.Ram.{cells, at, absent, placeFrom, find, twiceOf}
 use Rattle.machine.specs.Instruction.{Decoded, known, unknown, decode}
 use Rattle.machine.specs.InstructionView.{knownIn}
-use Rattle.machine.specs.Machine.{Code, Memory}
-use Rattle.machine.specs.MachineView.{code}
+use Rattle.machine.specs.Machine.{Code, Memory, code}
 use Rattle.machine.specs.PlaceA.{code1, memory1, unknown3, argument4, opcodes3, arguments4, code34}
 use Rattle.machine.proofs.Choice.{first-zero, first-left, first-nil, above-not, above-is, differ-nil}
 

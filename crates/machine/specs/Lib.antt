@@ -7,7 +7,6 @@ pub mod RamView
 pub mod Instruction
 pub mod InstructionView
 pub mod Machine
-pub mod MachineView
 pub mod Effect
 pub mod EffectView
 pub mod HashedView
