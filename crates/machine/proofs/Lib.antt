@@ -33,3 +33,4 @@ pub mod Bits
 pub mod Window
 pub mod Slots
 pub mod TableLaws
+pub mod HashedLaws

@@ -10,6 +10,7 @@ pub mod Machine
 pub mod Effect
 pub mod EffectView
 pub mod HashedView
+pub mod HashedParts
 pub mod Stack
 pub mod Control
 pub mod Memory

@@ -6,6 +6,7 @@ pub mod effect;
 pub mod hashing;
 pub mod input_output;
 pub mod instruction;
+pub mod many_in_one;
 pub mod memory;
 pub mod op_stack;
 pub mod ram;
