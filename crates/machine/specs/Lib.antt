@@ -10,6 +10,7 @@ pub mod Machine
 pub mod Effect
 pub mod EffectView
 pub mod HashedView
+pub mod HashedParts
 pub mod Stack
 pub mod Control
 pub mod Memory
@@ -31,7 +32,5 @@ pub mod Open
 pub mod Step
 pub mod HelperVariables
 pub mod Sound
-pub mod DecideView
-pub mod StepView
 pub mod ProvedTable
 pub mod UnderflowIO

@@ -1,4 +1,3 @@
-use crate::refusal::InstructionError;
 use tip5::sponge::Sponge;
 
 // The registers of a job. Everything else is lent with each call.
@@ -19,16 +18,4 @@ pub struct VMState {
     pub digests: usize,
     pub sponge: Sponge,
     pub halted: bool,
-}
-
-// A step is taken, or turned down.
-pub enum Answer {
-    Took,
-    Refused(InstructionError),
-}
-
-// What a step answers, and the registers behind it.
-pub struct Moved {
-    pub answer: Answer,
-    pub state: VMState,
 }
