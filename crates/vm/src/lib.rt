@@ -1,0 +1,3 @@
+// The machine's calls: what the next instruction does, a step, a run.
+pub mod answer;
+pub mod decide;
