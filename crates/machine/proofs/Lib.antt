@@ -34,3 +34,4 @@ pub mod Cancels
 pub mod Bits
 pub mod Window
 pub mod TableLaws
+pub mod HelpersLaws

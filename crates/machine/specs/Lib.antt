@@ -32,6 +32,7 @@ pub mod Step
 pub mod HelperVariables
 pub mod Sound
 pub mod DecideView
+pub mod HelpersView
 pub mod StepView
 pub mod ProvedTable
 pub mod UnderflowIO
