@@ -35,3 +35,4 @@ pub mod Window
 pub mod TableLaws
 pub mod ChecksLaws
 pub mod HashedLaws
+pub mod HelpersLaws

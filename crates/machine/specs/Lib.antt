@@ -32,5 +32,6 @@ pub mod Open
 pub mod Step
 pub mod HelperVariables
 pub mod Sound
+pub mod HelpersView
 pub mod ProvedTable
 pub mod UnderflowIO

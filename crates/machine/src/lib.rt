@@ -6,6 +6,7 @@ pub mod checks;
 pub mod control;
 pub mod effect;
 pub mod hashing;
+pub mod helper_variables;
 pub mod input_output;
 pub mod instruction;
 pub mod many_in_one;
