@@ -2,3 +2,4 @@
 pub mod DecideLaws
 pub mod LimitsLaws
 pub mod PerformLaws
+pub mod StepLaws

@@ -3,7 +3,7 @@
 use mathlib.Core.Path.{_≡_, refl, sym, ap, _∙_}
 use mathlib.Core.Bool.{Bool, true, false}
 use mathlib.Core.List.{List, [], _∷_, _++_}
-use Prim.Native.Nat.{ℕ, zero, suc, _+_, _-_, _≤_, _<_, min}
+use Prim.Native.Nat.{ℕ, zero, suc, _+_, _-_, _*_, _≤_, _<_, min}
 use native.Mathlib.Omega.{arith}
 use borrow.Author.Tests.{ltb-true, ltb-false}
 use lib.ListN.{length, take, getD, set, length-append}
@@ -19,7 +19,7 @@ use Rattle.machine.specs.Ram.{Cells, cells, stored}
 use Rattle.machine.specs.RamView.{Room}
 use Rattle.machine.specs.Machine.{Memory, memory, Machine, ram}
 use Rattle.machine.specs.Effect.{Call, reset, tip5, u32, ramRead, ramWrite, stays, pushes, pops, SpongeChange, keeps, becomes, Effect}
-use Rattle.machine.specs.EffectView.{accessesFrom, writesFrom, jumpOf, effectOf}
+use Rattle.machine.specs.EffectView.{accessesFrom, readsFrom, writesFrom, jumpOf, effectOf}
 use Rattle.machine.specs.HashedView.{withSponge, hashedCalls, hashedEffect}
 use Rattle.machine.specs.Apply.{put, appliedStack, originsAfter, destinationsAfter, touched, pointerAfter, spongeAfter, performedAt, performed, limitsOf}
 use Rattle.vm.specs.PerformView.{jumpWords, Fit, movedTo, Ready, Performed}
@@ -27,6 +27,7 @@ use Rattle.machine.specs.Sound.{Sound, Facts}
 use Rattle.machine.proofs.Touched.{touched-more}
 use Rattle.machine.proofs.Copies.{copy-put}
 use Rattle.machine.proofs.Preserved.{limits-fit}
+use Rattle.machine.proofs.Does.{callSizes}
 use Rattle.vm.proofs.LimitsLaws.{jumps-by, taken-length, writes-touch}
 
 -- ---- writes in order: what is done and what is left
@@ -172,7 +173,35 @@ unfolding effectOf
 few-accesses e =
     simp (length-append, accesses-length ramRead (e .addresses) (e .values) 0 (e .reads), accesses-length ramWrite (e .addresses) (e .values) (e .reads) (e .writes)) (omega arith)
 
-pub fit-of : (m : Machine) (e : Arrays) → Sound m → e .pops ≤ 16 → length (effectOf e .calls) ≤ 10 → Fit (m .state) e (m .memory)
+sizes-append : (xs ys : List Call) → callSizes (xs ++ ys) ≡ callSizes xs + callSizes ys
+sizes-append [] ys = omega arith
+sizes-append (x ∷ xs) ys = omega (arith, sizes-append xs ys)
+
+reads-bytes : (a v : List ℕ) (i n : ℕ) → callSizes (readsFrom a v i n) ≡ 25 * n
+unfolding accessesFrom
+reads-bytes a v i zero = refl
+reads-bytes a v i (suc n) = omega (arith, reads-bytes a v (i + 1) n)
+
+writes-bytes : (a v : List ℕ) (i n : ℕ) → callSizes (writesFrom a v i n) ≡ 25 * n
+unfolding accessesFrom
+writes-bytes a v i zero = refl
+writes-bytes a v i (suc n) = omega (arith, writes-bytes a v (i + 1) n)
+
+-- nor more than its calls have bytes for
+pub few-bytes : (e : Arrays) → 25 * (e .reads + e .writes) ≤ callSizes (effectOf e .calls)
+unfolding effectOf
+few-bytes e = simp sizes-append (omega (arith, reads-bytes (e .addresses) (e .values) 0 (e .reads), writes-bytes (e .addresses) (e .values) (e .reads) (e .writes)))
+
+-- of which a trace, or a reset, has its own
+pub hashed-bytes : (h : Hashed) (cs : List Call) → callSizes (hashedCalls h cs) ≡ cond (h .traces) 774 4 + callSizes cs
+hashed-bytes h cs = go (h .traces) (h .first)
+  where
+    go : (x y : Bool) → callSizes (cond x (cond y (tip5 (h .opcode) (h .trace) ∷ cs) (cs ++ (tip5 (h .opcode) (h .trace) ∷ []))) (reset ∷ cs)) ≡ cond x 774 4 + callSizes cs
+    go true true = refl
+    go true false = omega (arith, sizes-append cs (tip5 (h .opcode) (h .trace) ∷ []))
+    go false y = refl
+
+pub fit-of : (m : Machine) (e : Arrays) → Sound m → e .pops ≤ 16 → e .reads + e .writes ≤ 10 → Fit (m .state) e (m .memory)
 fit-of m e s p n = record {
   pops = omega (arith, s .deep);
   depth = s .opStack .used;
@@ -184,10 +213,10 @@ fit-of m e s p n = record {
   cellsFew = s .cells .few;
   written = s .outputs;
   outputFew = s .outputFew;
-  accesses = omega (arith, few-accesses e);
+  accesses = n;
 }
 
-pub ready-of : (m : Machine) (e : Arrays) (change : SpongeChange) (cs : List Call) → Sound m → Facts m (withSponge (effectOf e) change cs) → length (effectOf e .calls) ≤ 10 → limitsOf m (effectOf e) ≡ 0 → Ready (m .state) e (m .memory)
+pub ready-of : (m : Machine) (e : Arrays) (change : SpongeChange) (cs : List Call) → Sound m → Facts m (withSponge (effectOf e) change cs) → e .reads + e .writes ≤ 10 → limitsOf m (effectOf e) ≡ 0 → Ready (m .state) e (m .memory)
 unfolding effectOf
 ready-of m e change cs s f n l =
     let g = limits-fit m (effectOf e) l in
@@ -208,11 +237,11 @@ ready-of m e change cs s f n l =
         used = s .cells .used;
         pair = s .cells .pair;
         fits = rw (← writes-touch e (ram m)) (g .cells);
-        few = omega (arith, few-accesses e);
+        few = n;
       };
       output = g .output;
     }
 
-pub ready-plain : (m : Machine) (e : Arrays) → Sound m → Facts m (effectOf e) → length (effectOf e .calls) ≤ 10 → limitsOf m (effectOf e) ≡ 0 → Ready (m .state) e (m .memory)
+pub ready-plain : (m : Machine) (e : Arrays) → Sound m → Facts m (effectOf e) → e .reads + e .writes ≤ 10 → limitsOf m (effectOf e) ≡ 0 → Ready (m .state) e (m .memory)
 unfolding effectOf
 ready-plain m e s f n l = ready-of m e keeps (effectOf e .calls) s f n l

@@ -1,5 +1,5 @@
 -- What the code's answers to a step stand for.
-use Prim.Native.Nat.{ℕ, _+_, _≤_}
+use Prim.Native.Nat.{ℕ}
 use mathlib.Core.Path.{_≡_}
 use mathlib.Core.List.{List}
 use lib.Dec.{eqb}
@@ -14,8 +14,7 @@ use Rattle.machine.specs.Refusal.{Refusal, refusalOf, plainly}
 use Rattle.machine.specs.Machine.{Code, Memory, Machine, machine}
 use Rattle.machine.specs.Effect.{Effect}
 use Rattle.machine.specs.EffectView.{effectOf}
-use Rattle.machine.specs.PlaceA.{longest}
-use Rattle.vm.specs.PerformView.{Fit}
+use Rattle.vm.specs.PerformView.{Fit, Ready}
 use Rattle.machine.specs.Apply.{Outcome, took, kept, lost, performedAt, limitsOf}
 
 -- what a step answers: it is taken, or turned down
@@ -47,12 +46,10 @@ pub record Moves (m : Machine) (o : Outcome) (a : Answer) (x : Machine) : Type 0
 abbrev pub settledAt : Machine → Effect → ℕ → Sponge → Outcome
 settledAt m e q s = cond (eqb (limitsOf m e) 0) (took (performedAt m e q s)) (kept (plainly (limitsOf m e)))
 
--- what settling relies on: what a sound machine shows, at most ten accesses of RAM, and inputs that are there
+-- what settling relies on: what a sound machine shows, and room for the effect where no limit is met
 pub record Settling (s : VMState) (e : Arrays) (m : Memory) : Type 0 where
   pub fit : Fit s e m
-  pub publics : s .publics + e .publics ≤ longest
-  pub secrets : s .secrets + e .secrets ≤ longest
-  pub digests : s .digests + e .digests ≤ longest
+  pub ready : (c : Code) → limitsOf (machine s c m) (effectOf e) ≡ 0 → Ready s e m
 
 -- whatever the program and the inputs are
 pub record Settled (s : VMState) (e : Arrays) (q : ℕ) (sponge : Sponge) (m : Memory) (r : Moved) (n : Memory) : Type 0 where

@@ -3,3 +3,4 @@ pub mod answer;
 pub mod decide;
 pub mod limits;
 pub mod perform;
+pub mod step;
