@@ -1,0 +1,81 @@
+-- What the laws of the instructions say of an effect: its own part (what it takes, puts and records) and the rest, which most effects share. Assumes nothing.
+use mathlib.Core.Path.{_≡_, refl}
+use mathlib.Core.Bool.{Bool}
+use mathlib.Core.List.{List, [], _∷_}
+use Prim.Native.Nat.{ℕ, _+_, _*_, _≤_, _<_}
+use native.Mathlib.Omega.{arith}
+use lib.ListN.{length}
+use Rattle.field.specs.Base.{p}
+use Rattle.machine.specs.Words.{Words}
+use Rattle.machine.specs.Instruction.{sizeOf}
+use Rattle.machine.specs.Machine.{Machine, ram}
+use Rattle.machine.specs.Effect.{Call, reset, tip5, u32, ramRead, ramWrite, Effect, onward, stays, SpongeChange, keeps}
+use Rattle.machine.specs.Decide.{opcodeOf}
+use Rattle.machine.specs.Apply.{pointerAfter, spongeAfter}
+use Rattle.machine.specs.Sound.{SoundSponge, Sound, Honest, HonestJump}
+use Rattle.machine.proofs.Rows.{size-small}
+
+-- the bytes of a call's record
+abbrev pub callSize : Call → ℕ
+callSize reset = 4
+callSize (tip5 o t) = 774
+callSize (u32 o l r) = 22
+callSize (ramRead a v) = 25
+callSize (ramWrite a v) = 25
+
+abbrev pub callSizes : List Call → ℕ
+callSizes [] = 0
+callSizes (c ∷ cs) = callSize c + callSizes cs
+
+-- the stack grows and shrinks by so much, and the calls have so many bytes
+pub record Own (m : Machine) (grown shrunk bytes : ℕ) (e : Effect) : Type 0 where
+  pub pops : e .pops ≤ 16
+  pub change : length (e .words) + shrunk ≡ e .pops + grown
+  pub words : Words (e .words)
+  pub calls : Honest (ram m) (e .calls)
+  pub sizes : callSizes (e .calls) ≡ bytes
+
+pub record Rest (m : Machine) (e : Effect) : Type 0 where
+  pub next : pointerAfter m (e .next) < p
+  pub jump : HonestJump (e .jump)
+  pub publics : m .state .publics + e .publics ≤ length (m .code .public)
+  pub secrets : m .state .secrets + e .secrets ≤ length (m .code .secret)
+  pub digests : 5 * (m .state .digests + e .digests) ≤ length (m .code .digests)
+  pub sponge : SoundSponge (spongeAfter (m .state .sponge) (e .sponge))
+
+pub record Does (m : Machine) (grown shrunk bytes : ℕ) (e : Effect) : Type 0 where
+  pub own : Own m grown shrunk bytes e
+  pub rest : Rest m e
+
+module _ (m : Machine) (s : Sound m) (here : m .state .pointer < length (m .code .opcodes)) where
+  -- two slots on is still a word
+  pub near : m .state .pointer + 3 < p
+  near = omega (arith, s .code .slotsFew)
+
+  pub onward-word : m .state .pointer + sizeOf (opcodeOf m) < p
+  onward-word = omega (arith, near, size-small (opcodeOf m))
+
+  -- effects that only take, put, record and change the sponge: their pops, and by how much the stack grows and shrinks
+  pub sponges : {ws out : List ℕ} {cs : List Call} {t : Bool} {z : SpongeChange} {b : ℕ} (n g h : ℕ) → Words ws → Honest (ram m) cs → callSizes cs ≡ b →
+      SoundSponge (spongeAfter (m .state .sponge) z) → n ≤ 16 → length ws + h ≡ n + g →
+      Does m g h b (record { pops = n; words = ws; next = onward; halts = t; jump = stays; publics = 0; secrets = 0; digests = 0; output = out; sponge = z; calls = cs })
+  sponges n g h w k z y l c = record {
+    own = record { pops = l; change = c; words = w; calls = k; sizes = z };
+    rest = record {
+      next = onward-word;
+      jump = HonestJump.staying;
+      publics = omega (arith, s .publics);
+      secrets = omega (arith, s .secrets);
+      digests = omega (arith, s .digests);
+      sponge = y;
+    };
+  }
+
+  pub records : {ws out : List ℕ} {cs : List Call} {t : Bool} {b : ℕ} (n g h : ℕ) → Words ws → Honest (ram m) cs → callSizes cs ≡ b → n ≤ 16 →
+      length ws + h ≡ n + g →
+      Does m g h b (record { pops = n; words = ws; next = onward; halts = t; jump = stays; publics = 0; secrets = 0; digests = 0; output = out; sponge = keeps; calls = cs })
+  records n g h w k z l c = sponges n g h w k z (s .sponge) l c
+
+  pub puts-does : {ws out : List ℕ} {t : Bool} (n g h : ℕ) → Words ws → n ≤ 16 → length ws + h ≡ n + g →
+      Does m g h 0 (record { pops = n; words = ws; next = onward; halts = t; jump = stays; publics = 0; secrets = 0; digests = 0; output = out; sponge = keeps; calls = [] })
+  puts-does n g h w l c = records n g h w Honest.none refl l c

@@ -1,0 +1,107 @@
+-- What an instruction sees of a sound machine are words: the top sixteen, the words held in RAM, and what it gathers of both. Assumes nothing.
+use mathlib.Core.Path.{_≡_, refl}
+use mathlib.Core.Bool.{Bool, true, false}
+use mathlib.Core.List.{List, _++_}
+use Prim.Native.Nat.{ℕ, zero, suc, _+_, _-_, _≤_, _<_}
+use native.Mathlib.Omega.{arith}
+use borrow.Author.Tests.{ltb-true}
+use lib.ListN.{length, drop, length-drop}
+use lib.Seq.{length-take-le, getD-take}
+use lib.Dec.{ltb, lit<}
+use Rattle.field.specs.Base.{p, addP, subP}
+use Rattle.field.proofs.Ring.{below}
+use Rattle.machine.specs.Choice.{cond}
+use Rattle.machine.specs.Words.{Words, none, more}
+use Rattle.machine.specs.Ram.{Cells, find, at, absent, heldAt, held, placeFrom, stored}
+use Rattle.machine.specs.Machine.{Machine, topOf, st, top}
+use Rattle.machine.specs.Effect.{Call}
+use Rattle.machine.specs.Memory.{wordsDown, wordsUp, readsDown, readsUp, writesUp}
+use Rattle.machine.specs.Hashing.{fromTop, reversed}
+use Rattle.machine.specs.Sound.{SoundCells, Sound, Honest}
+use Rattle.machine.proofs.Words.{words-getD, words-take, words-drop}
+
+-- ---- op stack
+
+pub top-length : (s : List ℕ) (d : ℕ) → 16 ≤ d → d ≤ length s → length (topOf s d) ≡ 16
+unfolding topOf
+top-length s d h l = length-take-le 16 (drop (d - 16) s) (simp length-drop (omega arith))
+
+pub top-words : (s : List ℕ) (d : ℕ) → Words s → Words (topOf s d)
+unfolding topOf
+top-words s d b = words-take 16 (words-drop (d - 16) b)
+
+pub sees-sixteen : (m : Machine) → Sound m → length (top m) ≡ 16
+sees-sixteen m s = top-length (m .memory .opStack) (m .state .depth) (s .deep) (s .opStack .used)
+
+pub sees : (m : Machine) → Sound m → Words (top m)
+sees m s = top-words (m .memory .opStack) (m .state .depth) (s .opStack .words)
+
+pub from-top-length : (w : List ℕ) (i n : ℕ) → length (fromTop w i n) ≡ n
+unfolding fromTop
+from-top-length w i zero = refl
+from-top-length w i (suc n) = rw (from-top-length w (i + 1) n)
+
+pub from-top-words : {w : List ℕ} (i n : ℕ) → Words w → Words (fromTop w i n)
+unfolding fromTop
+from-top-words i zero b = none
+from-top-words i (suc n) b = more (words-getD (15 - i) b) (from-top-words (i + 1) n b)
+
+pub reversed-length : (s : List ℕ) (n : ℕ) → length (reversed s n) ≡ n
+unfolding reversed
+reversed-length s zero = refl
+reversed-length s (suc n) = rw (reversed-length s n)
+
+pub reversed-words : {s : List ℕ} (n : ℕ) → Words s → Words (reversed s n)
+unfolding reversed
+reversed-words zero b = none
+reversed-words (suc n) b = more (words-getD n b) (reversed-words n b)
+
+-- ---- RAM
+
+pub held-word : (c : Cells) (a : ℕ) → SoundCells c → held c a < p
+unfolding held find
+held-word c a s = go (ltb (placeFrom (c .addresses) a (c .count) 0) (c .count)) refl
+  where
+    go : (t : Bool) → ltb (placeFrom (c .addresses) a (c .count) 0) (c .count) ≡ t →
+        heldAt c (cond t (at (placeFrom (c .addresses) a (c .count) 0)) (absent (c .count))) < p
+    go true e =
+        rw (← getD-take (c .count) (c .values) (placeFrom (c .addresses) a (c .count) 0) 0 (ltb-true _ (c .count) e))
+        (words-getD (placeFrom (c .addresses) a (c .count) 0) (s .values))
+    go false e = lit< tt
+
+module _ (c : Cells) (s : SoundCells c) where
+  pub words-up-words : (a n : ℕ) → Words (wordsUp c a n)
+  unfolding wordsUp
+  words-up-words a zero = none
+  words-up-words a (suc n) = more (held-word c a s) (words-up-words (addP a 1) n)
+
+  pub words-down-words : (a n : ℕ) → Words (wordsDown c a n)
+  unfolding wordsDown
+  words-down-words a zero = none
+  words-down-words a (suc n) = more (held-word c a s) (words-down-words (subP a 1) n)
+
+  pub reads-up-honest : {cs : List Call} (a n : ℕ) → a < p → Honest c cs → Honest c (readsUp c a n ++ cs)
+  unfolding readsUp
+  reads-up-honest a zero h k = k
+  reads-up-honest a (suc n) h k = Honest.reads h (held-word c a s) refl (reads-up-honest (addP a 1) n (below _) k)
+
+  pub reads-down-honest : (a n : ℕ) → a < p → Honest c (readsDown c a n)
+  unfolding readsDown
+  reads-down-honest a zero h = Honest.none
+  reads-down-honest a (suc n) h = Honest.reads h (held-word c a s) refl (reads-down-honest (subP a 1) n (below _))
+
+pub words-up-length : (c : Cells) (a n : ℕ) → length (wordsUp c a n) ≡ n
+unfolding wordsUp
+words-up-length c a zero = refl
+words-up-length c a (suc n) = rw (words-up-length c (addP a 1) n)
+
+pub words-down-length : (c : Cells) (a n : ℕ) → length (wordsDown c a n) ≡ n
+unfolding wordsDown
+words-down-length c a zero = refl
+words-down-length c a (suc n) = rw (words-down-length c (subP a 1) n)
+
+pub writes-up-honest : {w : List ℕ} (c : Cells) (i a n : ℕ) → Words w → a < p → Honest c (writesUp w i a n)
+unfolding writesUp
+writes-up-honest c i a zero b h = Honest.none
+writes-up-honest {w} c i a (suc n) b h =
+    Honest.writes h (words-getD (15 - i) b) (writes-up-honest (stored c a (st w i)) (i + 1) (addP a 1) n b (below _))

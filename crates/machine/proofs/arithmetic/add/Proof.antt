@@ -1,0 +1,32 @@
+use Rattle.machine.specs.Arithmetic.{addOf}
+use Rattle.machine.proofs.Words.{words-getD}
+use Prim.Native.Nat.{ℕ, _+_, _*_, _-_, _/_, _%_, _^_, _<_, _≤_}
+use native.Mathlib.Omega.{arith}
+use mathlib.Core.Path.{_≡_, refl, sym, ap, _∙_}
+use lib.ListN.{length}
+use borrow.Author.Needs.{needs}
+use Rattle.machine.proofs.arithmetic.add.Statement.{statement}
+use Rattle.machine.proofs.arithmetic.add.Tie as tie
+use Rattle.machine.proofs.arithmetic.add.Reads as reads
+use Rattle.machine.proofs.arithmetic.add.Lts as lts
+use Rattle.field.proofs.base.add.Reads as add-reads
+use Rattle.machine.proofs.effect.put1.Reads as put1-reads
+
+array-read-add : tie.Need-array-read-add
+array-read-add c = search needs
+
+array-read-add-2 : tie.Need-array-read-add-2
+array-read-add-2 c = search needs
+
+add-requires : tie.Need-add-requires
+add-requires c κs = (words-getD 15 (c .pre), words-getD 14 (c .pre))
+
+put1-requires : tie.Need-put1-requires
+put1-requires c κs = search needs
+
+returns : tie.Need-returns
+unfolding addOf
+returns c = rw (c .put1 .ensures, c .before .add .ensures)
+
+pub add-spec : {M : Type 1} → statement M
+add-spec = tie.close (tie.spec array-read-add array-read-add-2 add-requires put1-requires returns)

@@ -1,0 +1,29 @@
+use Rattle.machine.specs.Arithmetic.{addiOf}
+use Rattle.machine.proofs.Words.{words-getD}
+use Prim.Native.Nat.{ℕ, _+_, _*_, _-_, _/_, _%_, _^_, _<_, _≤_}
+use native.Mathlib.Omega.{arith}
+use mathlib.Core.Path.{_≡_, refl, sym, ap, _∙_}
+use lib.ListN.{length}
+use borrow.Author.Needs.{needs}
+use Rattle.machine.proofs.arithmetic.addi.Statement.{statement}
+use Rattle.machine.proofs.arithmetic.addi.Tie as tie
+use Rattle.machine.proofs.arithmetic.addi.Reads as reads
+use Rattle.machine.proofs.arithmetic.addi.Lts as lts
+use Rattle.field.proofs.base.add.Reads as add-reads
+use Rattle.machine.proofs.effect.put1.Reads as put1-reads
+
+array-read-add : tie.Need-array-read-add
+array-read-add c = search needs
+
+add-requires : tie.Need-add-requires
+add-requires c κs = (words-getD 15 (c .pre .0), c .pre .1)
+
+put1-requires : tie.Need-put1-requires
+put1-requires c κs = search needs
+
+returns : tie.Need-returns
+unfolding addiOf
+returns c = rw (c .put1 .ensures, c .before .add .ensures)
+
+pub addi-spec : {M : Type 1} → statement M
+addi-spec = tie.close (tie.spec array-read-add add-requires put1-requires returns)

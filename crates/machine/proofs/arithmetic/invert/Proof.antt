@@ -1,0 +1,47 @@
+use Rattle.machine.specs.Refusal.{refusalOf}
+use borrow.Author.Tests.{eq-eqb, ne-eqb}
+use Rattle.machine.specs.Arithmetic.{invertOf}
+use Rattle.machine.proofs.Words.{words-getD}
+use Prim.Native.Nat.{ℕ, _+_, _*_, _-_, _/_, _%_, _^_, _<_, _≤_}
+use native.Mathlib.Omega.{arith}
+use mathlib.Core.Path.{_≡_, refl, sym, ap, _∙_}
+use lib.ListN.{length}
+use borrow.Author.Needs.{needs}
+use Rattle.machine.proofs.arithmetic.invert.Statement.{statement}
+use Rattle.machine.proofs.arithmetic.invert.Tie as tie
+use Rattle.machine.proofs.arithmetic.invert.Reads as reads
+use Rattle.machine.proofs.arithmetic.invert.Lts as lts
+use Rattle.field.proofs.base.inverse_or_zero.Reads as inverse-or-zero-reads
+use Rattle.machine.proofs.effect.put1.Reads as put1-reads
+use Rattle.machine.proofs.effect.refuse.Reads as refuse-reads
+
+array-read-a : tie.Need-array-read-a
+array-read-a c = search needs
+
+refuse-requires : tie.Need-refuse-requires
+refuse-requires c κs = search needs
+
+inverse-or-zero-requires : tie.Need-inverse-or-zero-requires
+inverse-or-zero-requires c κs = words-getD 15 (c .before .pre)
+
+put1-requires : tie.Need-put1-requires
+put1-requires c κs = search needs
+
+returns : tie.Need-returns
+unfolding invertOf refusalOf
+returns c = rw (c .refuse .ensures, eq-eqb _ _ (c .before .if1 .taken))
+
+returns-2 : tie.Need-returns-2
+unfolding invertOf
+returns-2 c = rw (c .put1 .ensures, c .before .inverse-or-zero .ensures, ne-eqb _ _ (c .before .before .if1 .left))
+
+pub invert-spec : {M : Type 1} → statement M
+invert-spec =
+    tie.close
+    (tie.spec
+    array-read-a
+    refuse-requires
+    inverse-or-zero-requires
+    put1-requires
+    returns
+    returns-2)

@@ -1,0 +1,31 @@
+use Rattle.machine.specs.Arithmetic.{mulOf}
+use Prim.Native.Nat.{ℕ, _+_, _*_, _-_, _/_, _%_, _^_, _<_, _≤_}
+use native.Mathlib.Omega.{arith}
+use mathlib.Core.Path.{_≡_, refl, sym, ap, _∙_}
+use lib.ListN.{length}
+use borrow.Author.Needs.{needs}
+use Rattle.machine.proofs.arithmetic.mul.Statement.{statement}
+use Rattle.machine.proofs.arithmetic.mul.Tie as tie
+use Rattle.machine.proofs.arithmetic.mul.Reads as reads
+use Rattle.machine.proofs.arithmetic.mul.Lts as lts
+use Rattle.field.proofs.base.mul.Reads as mul-reads
+use Rattle.machine.proofs.effect.put1.Reads as put1-reads
+
+array-read-mul : tie.Need-array-read-mul
+array-read-mul c = search needs
+
+array-read-mul-2 : tie.Need-array-read-mul-2
+array-read-mul-2 c = search needs
+
+mul-requires : tie.Need-mul-requires
+mul-requires c κs = search needs
+
+put1-requires : tie.Need-put1-requires
+put1-requires c κs = search needs
+
+returns : tie.Need-returns
+unfolding mulOf
+returns c = rw (c .put1 .ensures, c .before .mul .ensures)
+
+pub mul-spec : {M : Type 1} → statement M
+mul-spec = tie.close (tie.spec array-read-mul array-read-mul-2 mul-requires put1-requires returns)

@@ -1,0 +1,33 @@
+use Rattle.machine.specs.Arithmetic.{xxAddOf}
+use Prim.Native.Nat.{ℕ, _+_, _*_, _-_, _/_, _%_, _^_, _<_, _≤_}
+use native.Mathlib.Omega.{arith}
+use mathlib.Core.Path.{_≡_, refl, sym, ap, _∙_}
+use lib.ListN.{length}
+use borrow.Author.Needs.{needs}
+use Rattle.machine.proofs.arithmetic.xx_add.Statement.{statement}
+use Rattle.machine.proofs.arithmetic.xx_add.Tie as tie
+use Rattle.machine.proofs.arithmetic.xx_add.Reads as reads
+use Rattle.machine.proofs.arithmetic.xx_add.Lts as lts
+use Rattle.field.proofs.extension.add.Reads as add-reads
+use Rattle.machine.proofs.arithmetic.element.Reads as element-reads
+use Rattle.machine.proofs.effect.put3.Reads as put3-reads
+
+element-requires : tie.Need-element-requires
+element-requires c κs = search needs
+
+element-requires-2 : tie.Need-element-requires-2
+element-requires-2 c κs = search needs
+
+add-requires : tie.Need-add-requires
+add-requires c κs = search needs
+
+put3-requires : tie.Need-put3-requires
+put3-requires c κs = search needs
+
+returns : tie.Need-returns
+unfolding xxAddOf
+returns c = rw (c .put3 .ensures, c .before .add .ensures, c .before .before .element2 .ensures .0, c .before .before .before .element .ensures .0)
+
+pub xx-add-spec : {M : Type 1} → statement M
+xx-add-spec =
+    tie.close (tie.spec element-requires element-requires-2 add-requires put3-requires returns)

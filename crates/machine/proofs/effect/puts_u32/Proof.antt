@@ -1,0 +1,27 @@
+use Rattle.machine.specs.EffectView.{u32sOf}
+use mathlib.Core.List.{append-nil}
+use Rattle.machine.specs.EffectView.{decisionOf, effectOf, accessesFrom}
+use Prim.Native.Nat.{ℕ, _+_, _*_, _-_, _/_, _%_, _^_, _<_, _≤_}
+use native.Mathlib.Omega.{arith}
+use mathlib.Core.Path.{_≡_, refl, sym, ap, _∙_}
+use lib.ListN.{length}
+use borrow.Author.Needs.{needs}
+use Rattle.machine.proofs.effect.puts_u32.Statement.{statement}
+use Rattle.machine.proofs.effect.puts_u32.Tie as tie
+use Rattle.machine.proofs.effect.puts_u32.Reads as reads
+use Rattle.machine.proofs.effect.puts_u32.Lts as lts
+use Rattle.machine.proofs.effect.act.Reads as act-reads
+use Rattle.machine.proofs.effect.nothing.Reads as nothing-reads
+
+nothing-requires : tie.Need-nothing-requires
+nothing-requires c κs = search needs
+
+act-requires : tie.Need-act-requires
+act-requires c κs = search needs
+
+returns : tie.Need-returns
+unfolding effectOf accessesFrom
+returns c = rw (c .act .ensures, c .before .nothing .ensures) (simp append-nil)
+
+pub puts-u32-spec : {M : Type 1} → statement M
+puts-u32-spec = tie.close (tie.spec nothing-requires act-requires returns)

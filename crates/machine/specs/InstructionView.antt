@@ -1,0 +1,28 @@
+-- What the code says of an opcode besides the definitions of Instruction.
+use Prim.Native.Nat.{ℕ}
+use mathlib.Core.Bool.{Bool, true, false}
+use Rattle.machine.specs.Instruction.{Argument, nothing, words, place-of-stack, any, Decoded, known, unknown, grownBy, shrunkBy}
+
+abbrev pub knownIn : Decoded → Bool
+knownIn (known r) = true
+knownIn unknown = false
+
+-- the number that the code has for what argument an instruction takes
+abbrev pub kindOf : Argument → ℕ
+kindOf nothing = 0
+kindOf words = 1
+kindOf place-of-stack = 2
+kindOf any = 3
+
+abbrev pub kindIn : Decoded → ℕ
+kindIn (known r) = kindOf (r .argument)
+kindIn unknown = 4
+
+-- how many words deeper, and how many less deep, the stack is behind it; 0 where there is no instruction
+abbrev pub grownIn : Decoded → ℕ → ℕ
+grownIn (known r) n = grownBy (r .change) n
+grownIn unknown n = 0
+
+abbrev pub shrunkIn : Decoded → ℕ → ℕ
+shrunkIn (known r) n = shrunkBy (r .change) n
+shrunkIn unknown n = 0

@@ -1,0 +1,51 @@
+-- open: the machine before the first step.
+use Prim.Native.Nat.{ℕ, _-_}
+use mathlib.Core.Bool.{false}
+use mathlib.Core.List.{List, _∷_}
+use lib.ListN.{length, getD, replicate}
+use lib.Dec.{eqb}
+use Rattle.tip5.specs.declared.sponge.Sponge.{Sponge}
+use Rattle.machine.specs.declared.vm.VMState.{VMState}
+use Rattle.machine.specs.Choice.{cond}
+use Rattle.machine.specs.Refusal.{plainly}
+use Rattle.machine.specs.Machine.{Code, Memory, Machine, machine}
+use Rattle.machine.specs.Apply.{Outcome, took, kept}
+use Rattle.machine.specs.PlaceA.{openA}
+
+-- no sponge, and its words 0
+abbrev pub noSponge : Sponge
+noSponge = record { words = replicate 16 0; set = false }
+
+-- depth 16, the program digest reversed at the bottom (ST 11 is its word 0), zeros above
+unfoldable pub openedStack : List ℕ → List ℕ → List ℕ
+openedStack digest s = getD digest 4 0 ∷ getD digest 3 0 ∷ getD digest 2 0 ∷ getD digest 1 0 ∷ getD digest 0 0 ∷ replicate (length s - 5) 0
+
+unfoldable pub opened : List ℕ → Code → Memory → ℕ → Machine
+opened digest c m n =
+    machine
+    (record {
+      clock = 0;
+      pointer = 0;
+      depth = 16;
+      jumps = 0;
+      cells = n;
+      outputs = 0;
+      publics = 0;
+      secrets = 0;
+      digests = 0;
+      sponge = noSponge;
+      halted = false;
+    })
+    c
+    (record {
+      opStack = openedStack digest (m .opStack);
+      origins = replicate (length (m .origins)) 0;
+      destinations = replicate (length (m .destinations)) 0;
+      addresses = m .addresses;
+      values = m .values;
+      output = m .output;
+    })
+
+-- a refused open changes nothing that is lent
+unfoldable pub openOf : List ℕ → Code → Memory → ℕ → Outcome
+openOf digest c m n = cond (eqb (openA digest c m n) 0) (took (opened digest c m n)) (kept (plainly (openA digest c m n)))

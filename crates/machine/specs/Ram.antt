@@ -1,0 +1,85 @@
+-- RAM: cells in two lists, of addresses and of values, of which the first so many are used. Everything above goes by find,
+-- held, stored and the conditions at the end, and looks behind none of them.
+use Prim.Native.Nat.{ℕ, zero, suc, _+_, _<_, min}
+use mathlib.Core.Path.{_≡_}
+use mathlib.Core.Bool.{Bool, true, false}
+use mathlib.Core.List.{List}
+use lib.ListN.{length, getD, set}
+use lib.Dec.{eqb, ltb}
+use Rattle.machine.specs.Choice.{cond, firstOf, aboveOf, differOf}
+use Rattle.machine.specs.Words.{wordsOf}
+
+pub record Cells : Type 0 where
+  pub count : ℕ
+  pub addresses : List ℕ
+  pub values : List ℕ
+
+abbrev pub cells : ℕ → List ℕ → List ℕ → Cells
+cells n a v = record { count = n; addresses = a; values = v }
+
+-- where an address has its cell, or where its new cell goes
+pub data Found : Type 0 where
+  at : ℕ → Found
+  absent : ℕ → Found
+
+-- the first of f places from i on that has the address a; i + f where none does
+unfoldable pub placeFrom : List ℕ → ℕ → ℕ → ℕ → ℕ
+placeFrom s a zero i = i
+placeFrom s a (suc f) i = cond (eqb (getD s i 0) a) i (placeFrom s a f (suc i))
+
+-- 'a new address goes behind the last used cell'
+unfoldable pub find : Cells → ℕ → Found
+find c a = cond (ltb (placeFrom (c .addresses) a (c .count) 0) (c .count)) (at (placeFrom (c .addresses) a (c .count) 0)) (absent (c .count))
+
+abbrev pub hasAt : Found → Bool
+hasAt (at i) = true
+hasAt (absent i) = false
+
+-- whether an address has a cell
+unfoldable pub has : Cells → ℕ → Bool
+has c a = hasAt (find c a)
+
+-- 'a read of an absent address gives 0'
+abbrev pub heldAt : Cells → Found → ℕ
+heldAt c (at i) = getD (c .values) i 0
+heldAt c (absent i) = 0
+
+-- the word at an address
+unfoldable pub held : Cells → ℕ → ℕ
+held c a = heldAt c (find c a)
+
+abbrev pub storedAt : Cells → ℕ → ℕ → Found → Cells
+storedAt c a v (at i) = cells (c .count) (c .addresses) (set (c .values) i v)
+storedAt c a v (absent i) = cells (c .count + 1) (set (c .addresses) i a) (set (c .values) i v)
+
+-- the cells after a write
+unfoldable pub stored : Cells → ℕ → ℕ → Cells
+stored c a v = storedAt c a v (find c a)
+
+-- the same used cells in order, in slices as long; the unused cells may differ
+pub record Alike (c d : Cells) : Type 0 where
+  pub count : c .count ≡ d .count
+  pub addresses : (i : ℕ) → i < c .count → getD (c .addresses) i 0 ≡ getD (d .addresses) i 0
+  pub values : (i : ℕ) → i < c .count → getD (c .values) i 0 ≡ getD (d .values) i 0
+  pub room : length (c .addresses) ≡ length (d .addresses)
+  pub pair : length (c .values) ≡ length (d .values)
+
+-- ---- what place A asks of cells
+
+unfoldable pub cells1 : Cells → ℕ
+cells1 c =
+    firstOf (aboveOf (length (c .addresses)) 16777216 1)
+    (firstOf (aboveOf (length (c .values)) 16777216 1)
+    (differOf (length (c .addresses)) (length (c .values)) 1))
+
+-- used: the places below the count that the slice has
+unfoldable pub cells2 : Cells → ℕ
+cells2 c = firstOf (wordsOf (c .addresses) (min (c .count) (length (c .addresses)))) (wordsOf (c .values) (min (c .count) (length (c .values))))
+
+-- 5 where one of the first n addresses stands before itself too
+unfoldable pub twiceOf : List ℕ → ℕ → ℕ
+twiceOf s zero = 0
+twiceOf s (suc n) = firstOf (twiceOf s n) (aboveOf n (placeFrom s (getD s n 0) n 0) 5)
+
+unfoldable pub cells5 : Cells → ℕ
+cells5 c = firstOf (aboveOf (c .count) (length (c .addresses)) 5) (twiceOf (c .addresses) (c .count))

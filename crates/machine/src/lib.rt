@@ -1,0 +1,16 @@
+// The machine: its instructions, its calls and their records.
+pub mod arithmetic;
+pub mod bitwise;
+pub mod calls;
+pub mod control;
+pub mod decide;
+pub mod effect;
+pub mod hashing;
+pub mod input_output;
+pub mod instruction;
+pub mod memory;
+pub mod op_stack;
+pub mod ram;
+pub mod refusal;
+pub mod stack;
+pub mod vm;

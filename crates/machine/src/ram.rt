@@ -1,0 +1,61 @@
+// RAM: addresses and values in two slices, of which the first `count` places are used.
+ghost use mathlib.Core.Path.{_≡_};
+ghost use Prim.Native.Nat.{_≤_};
+ghost use lib.ListN.{length};
+ghost use Rattle.machine.specs.Ram.{cells, held};
+ghost use Rattle.machine.specs.RamView.{Looked, Room, Stored};
+
+// Where an address has its cell, or where its new cell goes.
+pub enum Found {
+    At(usize),
+    Absent(usize),
+}
+
+pub fn find(addresses: &[u64], count: usize, address: u64) -> Found
+    requires { ⌜ count ≤ length (now addresses) ⌝ }
+    ensures { λ r. ⌜ Looked (now (addresses .entry)) count address r ⌝ }
+{
+    let mut i = 0;
+    while i < count {
+        if addresses[i] == address {
+            return Found::At(i);
+        }
+        i += 1;
+    }
+    Found::Absent(count)
+}
+
+// The word at an address, 0 where it is absent.
+pub fn read(addresses: &[u64], values: &[u64], count: usize, address: u64) -> u64
+    requires { ⌜ (count ≤ length (now addresses)) × (count ≤ length (now values)) ⌝ }
+    ensures { λ r. ⌜ r ≡ held (cells count (now (addresses .entry)) (now (values .entry))) address ⌝ }
+{
+    match find(addresses, count, address) {
+        Found::At(i) => values[i],
+        Found::Absent(_) => 0,
+    }
+}
+
+// Writes a word, in a new cell where the address is absent; gives how many cells are used then.
+pub fn write(
+    addresses: &mut [u64],
+    values: &mut [u64],
+    count: usize,
+    address: u64,
+    value: u64,
+) -> usize
+    requires { ⌜ Room (cells count (now addresses) (now values)) address value ⌝ }
+    ensures { λ r. ⌜ Stored (cells count (now (addresses .entry)) (now (values .entry))) address value (cells r (now (addresses .exit)) (now (values .exit))) ⌝ }
+{
+    match find(addresses, count, address) {
+        Found::At(i) => {
+            values[i] = value;
+            count
+        }
+        Found::Absent(i) => {
+            addresses[i] = address;
+            values[i] = value;
+            count + 1
+        }
+    }
+}

@@ -1,0 +1,133 @@
+-- Replay: a log is read record by record up to a clock, and rebuilds depth, the words below the top sixteen, and RAM.
+use Prim.Native.Nat.{ℕ, zero, suc, _+_, _-_}
+use mathlib.Core.List.{List, [], _∷_}
+use lib.ListN.{length, getD, set}
+use lib.Dec.{eqb, ltb}
+use Rattle.machine.specs.Choice.{cond, firstOf, aboveOf, differOf}
+use Rattle.machine.specs.Words.{zerosFrom}
+use Rattle.machine.specs.Ram.{Cells, held, stored, cells1, cells2, cells5}
+use Rattle.machine.specs.Bytes.{bytesOf, isWord}
+use Rattle.machine.specs.Records.{Record, other, stack, ram, Parsed, ended, broken, found, parse}
+use Rattle.machine.specs.PlaceA.{tooLong}
+
+-- what replay has rebuilt so far, and the last clock
+pub record Built : Type 0 where
+  pub last : ℕ
+  pub depth : ℕ
+  pub words : List ℕ
+  pub cells : Cells
+
+abbrev pub built : ℕ → ℕ → List ℕ → Cells → Built
+built t d s c = record { last = t; depth = d; words = s; cells = c }
+
+-- ---- the faults of a record, in order; 0 where there is none
+
+-- 40: not a word
+unfoldable pub word40 : ℕ → ℕ
+word40 v = cond (isWord (bytesOf 8 v)) 0 40
+
+-- 40: a direction above 1, or one of two numbers that is no word
+unfoldable pub fields40 : ℕ → ℕ → ℕ → ℕ
+fields40 d q v = firstOf (aboveOf d 1 40) (firstOf (word40 q) (word40 v))
+
+-- 42 to 44 of a stack record with pointer q, direction and value v. A read needs depth above 16 and the pointer below it,
+-- and the word that stands there; a write needs the depth as its pointer, and room
+unfoldable pub stackFault : Built → ℕ → ℕ → ℕ → ℕ
+stackFault b q zero v = firstOf (aboveOf 17 (b .depth) 42) (firstOf (differOf (q + 1) (b .depth) 42) (differOf v (getD (b .words) (b .depth - 17) 0) 43))
+stackFault b q (suc d) v = firstOf (differOf q (b .depth) 42) (aboveOf (b .depth - 15) (length (b .words)) 44)
+
+-- 43 and 44 of a RAM record: a read needs the word held, a write a cell
+unfoldable pub ramFault : Built → ℕ → ℕ → ℕ → ℕ
+ramFault b a v zero = differOf v (held (b .cells) a) 43
+ramFault b a v (suc d) = aboveOf (stored (b .cells) a v .count) (length (b .cells .addresses)) 44
+
+-- ---- what a record without a fault makes of it
+
+-- a dropped word becomes 0
+unfoldable pub stackTurn : Built → ℕ → ℕ → ℕ → Built
+stackTurn b t zero v = built t (b .depth - 1) (set (b .words) (b .depth - 17) 0) (b .cells)
+stackTurn b t (suc d) v = built t (b .depth + 1) (set (b .words) (b .depth - 16) v) (b .cells)
+
+unfoldable pub ramTurn : Built → ℕ → ℕ → ℕ → ℕ → Built
+ramTurn b t a v zero = built t (b .depth) (b .words) (b .cells)
+ramTurn b t a v (suc d) = built t (b .depth) (b .words) (stored (b .cells) a v)
+
+-- ---- one record
+
+pub data Verdict : Type 0 where
+  -- its clock is j or later
+  stops : Verdict
+  wrong : ℕ → Verdict
+  goes : Built → Verdict
+
+-- the clock t stops the reading, or the fault n ends it, or it goes on with b
+unfoldable pub judged : ℕ → ℕ → ℕ → Built → Verdict
+judged j t n b = cond (ltb t j) (cond (eqb n 0) (goes b) (wrong n)) stops
+
+-- 41: clocks must not fall
+unfoldable pub readOf : ℕ → Built → Record → Verdict
+readOf j b (other k s) = goes b
+readOf j b (stack t q d v) = judged j t (firstOf (fields40 d q v) (firstOf (aboveOf (b .last) t 41) (stackFault b q d v))) (stackTurn b t d v)
+readOf j b (ram t a v d) = judged j t (firstOf (fields40 d a v) (firstOf (aboveOf (b .last) t 41) (ramFault b a v d))) (ramTurn b t a v d)
+
+-- ---- all records
+
+pub data Went : Type 0 where
+  bad : ℕ → Went
+  fine : Built → Went
+
+-- what follows a record
+abbrev pub onward : Built → (Built → Went) → Verdict → Went
+onward b k stops = fine b
+onward b k (wrong n) = bad n
+onward b k (goes x) = k x
+
+unfoldable pub replayRecords : ℕ → Built → List Record → Went
+replayRecords j b [] = fine b
+replayRecords j b (r ∷ rs) = onward b (λ x. replayRecords j x rs) (readOf j b r)
+
+-- what follows a reading of bytes
+abbrev pub onParsed : Built → (Record → List ℕ → Went) → Parsed → Went
+onParsed b k ended = fine b
+onParsed b k broken = bad 40
+onParsed b k (found r t) = k r t
+
+-- over bytes; as many records at most as bytes
+unfoldable pub replayBytes : ℕ → ℕ → Built → List ℕ → Went
+replayBytes zero j b s = fine b
+replayBytes (suc f) j b s = onParsed b (λ r t. onward b (λ x. replayBytes f j x t) (readOf j b r)) (parse s)
+
+-- ---- the call
+
+-- number, depth and cell count, and what stands in the stack slice and the RAM slices at its end
+pub record Replayed : Type 0 where
+  pub number : ℕ
+  pub depth : ℕ
+  pub count : ℕ
+  pub words : List ℕ
+  pub addresses : List ℕ
+  pub values : List ℕ
+
+abbrev pub gives : ℕ → List ℕ → Cells → Replayed
+gives d s c = record { number = 0; depth = d; count = c .count; words = s; addresses = c .addresses; values = c .values }
+
+-- a refusal gives zeros and leaves the slices as they were
+abbrev pub refuses : ℕ → List ℕ → Cells → Replayed
+refuses n s c = record { number = n; depth = 0; count = 0; words = s; addresses = c .addresses; values = c .values }
+
+abbrev pub finished : Went → List ℕ → Cells → Replayed
+finished (bad n) s c = refuses n s c
+finished (fine b) s c = gives (b .depth) (b .words) (b .cells)
+
+-- place A; 'the stack slice must be all 0, otherwise 5'
+unfoldable pub replayA : List ℕ → Cells → List ℕ → ℕ
+replayA log c s =
+    firstOf (firstOf (tooLong log) (firstOf (cells1 c) (tooLong s)))
+    (firstOf (cells2 c) (firstOf (cells5 c) (zerosFrom s 0 (length s))))
+
+-- a log, the opening RAM, a stack slice, a clock
+unfoldable pub replayOf : List ℕ → Cells → List ℕ → ℕ → Replayed
+replayOf log c s j =
+    cond (eqb (replayA log c s) 0)
+    (finished (replayBytes (length log) j (built 0 16 s c) log) s c)
+    (refuses (replayA log c s) s c)
