@@ -15,7 +15,6 @@ pub mod PlaceA
 pub mod Seen
 pub mod Acts
 pub mod Rows
-pub mod DecideView
 pub mod Does
 pub mod FactsStack
 pub mod Traces
@@ -34,3 +33,6 @@ pub mod Cancels
 pub mod Bits
 pub mod Window
 pub mod TableLaws
+pub mod ChecksLaws
+pub mod HashedLaws
+pub mod HelpersLaws

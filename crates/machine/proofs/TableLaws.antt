@@ -1,15 +1,15 @@
 -- What a `match` on an opcode shows of the table: one law for an arm, one for what is left. Assumes nothing.
-use mathlib.Core.Path.{_≡_, refl, sym, _∙_}
-use mathlib.Core.Logic.{⊎-elim, inl, inr, _⊎_}
+use mathlib.Core.Path.{_≡_, refl}
+use mathlib.Core.Logic.{inl, inr, _⊎_}
 use mathlib.Core.Bool.{Bool, true, false}
 use mathlib.Core.List.{List, [], _∷_}
-use Prim.Native.Nat.{ℕ, _<_}
+use Prim.Native.Nat.{ℕ, suc, _+_, _-_, _<_}
 use native.Mathlib.Omega.{arith}
-use borrow.Author.Tests.{eqb-true, lt-ltb}
-use lib.Dec.{T, eqb, ltb, lit<}
+use borrow.Author.Tests.{eqb-true, lt-ltb, le-ltb, ne-eqb, ltb-false}
+use lib.Dec.{T, eqb, ltb, lit<, leb→le}
 use Rattle.machine.specs.Choice.{cond}
-use Rattle.machine.specs.Instruction.{Argument, nothing, words, place-of-stack, any, Row, Decoded, known, unknown, decodeIn, argumentFault}
-use Rattle.machine.specs.InstructionView.{knownIn, kindOf, kindIn}
+use Rattle.machine.specs.Instruction.{Argument, nothing, words, place-of-stack, any, Row, Decoded, known, unknown, decodeIn, argumentFault, Change, grows, shrinks, grows-by-argument, shrinks-by-argument, grownBy, shrunkBy, table, decode, sizeIn, slotsOf}
+use Rattle.machine.specs.InstructionView.{knownIn, kindOf, kindIn, changeOf, changeIn, grownIn, shrunkIn}
 use Rattle.machine.specs.PlaceA.{unknown3, argument4}
 
 -- x is one of an arm's numbers
@@ -136,3 +136,132 @@ known-by unknown k e = rw e
 pub unknown-by : (d : Decoded) (k : ℕ) → k ≡ kindIn d → unknown3 d ≡ cond (ltb k 4) 0 3
 unknown-by (known r) k e = rw (e, lt-ltb (kindOf (r .argument)) 4 (kind-small (r .argument)))
 unknown-by unknown k e = rw e
+
+abbrev sizeBy : ℕ → ℕ
+sizeBy k = cond (eqb k 0) 1 (cond (ltb k 4) 2 1)
+
+slots-by : (a : Argument) → slotsOf a ≡ sizeBy (kindOf a)
+slots-by nothing = refl
+slots-by words = refl
+slots-by place-of-stack = refl
+slots-by any = refl
+
+sized-by : (d : Decoded) → sizeIn d ≡ sizeBy (kindIn d)
+sized-by (known r) = slots-by (r .argument)
+sized-by unknown = refl
+
+pub size-by : (d : Decoded) (k : ℕ) → k ≡ kindIn d → sizeIn d ≡ sizeBy k
+size-by d k e = rw e (sized-by d)
+
+-- ---- what follows from the number of the change of the depth
+
+-- a change is below 16, or by an argument that is a number of words
+abbrev small : Change → Argument → Bool
+small (grows k) a = ltb k 16
+small (shrinks k) a = ltb k 16
+small grows-by-argument a = eqb (kindOf a) 1
+small shrinks-by-argument a = eqb (kindOf a) 1
+
+abbrev smallIn : Decoded → Bool
+smallIn (known r) = small (r .change) (r .argument)
+smallIn unknown = true
+
+abbrev allSmall : List Row → Bool
+allSmall [] = true
+allSmall (r ∷ rs) = cond (small (r .change) (r .argument)) (allSmall rs) false
+
+rows-small : (rs : List Row) → T (allSmall rs) → (x : ℕ) → T (smallIn (decodeIn rs x))
+rows-small [] t x = tt
+rows-small (r ∷ rs) t x = go (small (r .change) (r .argument)) refl t (λ u. rows-small rs u x)
+  where
+    pick : (b : Bool) → T (small (r .change) (r .argument)) → T (smallIn (decodeIn rs x)) → T (smallIn (cond b (known r) (decodeIn rs x)))
+    pick true h k = h
+    pick false h k = k
+
+    go : (b : Bool) → small (r .change) (r .argument) ≡ b → T (cond b (allSmall rs) false) → (T (allSmall rs) → T (smallIn (decodeIn rs x))) → T (smallIn (decodeIn (r ∷ rs) x))
+    go true e u ih = pick (eqb (r .opcode) x) (rw e tt) (ih u)
+    go false e u ih = absurd u
+
+table-small : (x : ℕ) → T (smallIn (decode x))
+unfolding decode table
+table-small x = rows-small table tt x
+
+abbrev grownFrom : ℕ → ℕ → ℕ
+grownFrom c n = cond (eqb c 32) n (cond (ltb c 16) c 0)
+
+abbrev shrunkFrom : ℕ → ℕ → ℕ
+shrunkFrom c n = cond (eqb c 33) n (cond (ltb c 16) 0 (cond (ltb c 32) (c - 16) 0))
+
+grown-from : (h : Change) (a : Argument) (n : ℕ) → T (small h a) → grownBy h n ≡ grownFrom (changeOf h) n
+grown-from (grows k) a n t =
+    let l : k < 16 = leb→le (suc k) 16 t in
+    rw (ne-eqb k 32 (λ z. omega arith), lt-ltb k 16 l)
+grown-from (shrinks k) a n t =
+    let l : k < 16 = leb→le (suc k) 16 t in
+    rw (ne-eqb (16 + k) 32 (λ z. omega arith), le-ltb (16 + k) 16 (omega arith))
+grown-from grows-by-argument a n t = refl
+grown-from shrinks-by-argument a n t = refl
+
+shrunk-from : (h : Change) (a : Argument) (n : ℕ) → T (small h a) → shrunkBy h n ≡ shrunkFrom (changeOf h) n
+shrunk-from (grows k) a n t =
+    let l : k < 16 = leb→le (suc k) 16 t in
+    rw (ne-eqb k 33 (λ z. omega arith), lt-ltb k 16 l)
+shrunk-from (shrinks k) a n t =
+    let l : k < 16 = leb→le (suc k) 16 t in
+    let e : 16 + k - 16 ≡ k = omega arith in
+    rw (ne-eqb (16 + k) 33 (λ z. omega arith), le-ltb (16 + k) 16 (omega arith), lt-ltb (16 + k) 32 (omega arith), e)
+shrunk-from grows-by-argument a n t = refl
+shrunk-from shrinks-by-argument a n t = refl
+
+grown-in : (d : Decoded) (n : ℕ) → T (smallIn d) → grownIn d n ≡ grownFrom (changeIn d) n
+grown-in (known r) n t = grown-from (r .change) (r .argument) n t
+grown-in unknown n t = refl
+
+shrunk-in : (d : Decoded) (n : ℕ) → T (smallIn d) → shrunkIn d n ≡ shrunkFrom (changeIn d) n
+shrunk-in (known r) n t = shrunk-from (r .change) (r .argument) n t
+shrunk-in unknown n t = refl
+
+pub grown-by : (x n c : ℕ) → c ≡ changeIn (decode x) → grownIn (decode x) n ≡ grownFrom c n
+grown-by x n c e = rw e (grown-in (decode x) n (table-small x))
+
+pub shrunk-by : (x n c : ℕ) → c ≡ changeIn (decode x) → shrunkIn (decode x) n ≡ shrunkFrom c n
+shrunk-by x n c e = rw e (shrunk-in (decode x) n (table-small x))
+
+-- ---- an allowed argument changes the depth by less than 16
+
+words-few : (a : Argument) (n : ℕ) → T (eqb (kindOf a) 1) → argumentFault a n ≡ 0 → n < 16
+words-few nothing n t e = absurd t
+words-few words n t e = go (ltb n 1) (ltb 5 n) refl e
+  where
+    go : (b d : Bool) → ltb 5 n ≡ d → _≡_ {A = ℕ} (cond b 4 (cond d 4 0)) 0 → n < 16
+    go true d q u = omega arith
+    go false true q u = omega arith
+    go false false q u = omega (arith, ltb-false 5 n q)
+words-few place-of-stack n t e = absurd t
+words-few any n t e = absurd t
+
+grown-few : (h : Change) (a : Argument) (n : ℕ) → T (small h a) → argumentFault a n ≡ 0 → grownBy h n < 16
+grown-few (grows k) a n t e = leb→le (suc k) 16 t
+grown-few (shrinks k) a n t e = lit< tt
+grown-few grows-by-argument a n t e = words-few a n t e
+grown-few shrinks-by-argument a n t e = lit< tt
+
+shrunk-few : (h : Change) (a : Argument) (n : ℕ) → T (small h a) → argumentFault a n ≡ 0 → shrunkBy h n < 16
+shrunk-few (grows k) a n t e = lit< tt
+shrunk-few (shrinks k) a n t e = leb→le (suc k) 16 t
+shrunk-few grows-by-argument a n t e = lit< tt
+shrunk-few shrinks-by-argument a n t e = words-few a n t e
+
+grown-low : (d : Decoded) (n : ℕ) → T (smallIn d) → argument4 d n ≡ 0 → grownIn d n < 16
+grown-low (known r) n t e = grown-few (r .change) (r .argument) n t e
+grown-low unknown n t e = lit< tt
+
+shrunk-low : (d : Decoded) (n : ℕ) → T (smallIn d) → argument4 d n ≡ 0 → shrunkIn d n < 16
+shrunk-low (known r) n t e = shrunk-few (r .change) (r .argument) n t e
+shrunk-low unknown n t e = lit< tt
+
+pub grown-small : (x n : ℕ) → argument4 (decode x) n ≡ 0 → grownIn (decode x) n < 16
+grown-small x n e = grown-low (decode x) n (table-small x) e
+
+pub shrunk-small : (x n : ℕ) → argument4 (decode x) n ≡ 0 → shrunkIn (decode x) n < 16
+shrunk-small x n e = shrunk-low (decode x) n (table-small x) e

@@ -10,6 +10,7 @@ pub mod Machine
 pub mod Effect
 pub mod EffectView
 pub mod HashedView
+pub mod HashedParts
 pub mod Stack
 pub mod Control
 pub mod Memory
@@ -31,6 +32,6 @@ pub mod Open
 pub mod Step
 pub mod HelperVariables
 pub mod Sound
-pub mod DecideView
+pub mod HelpersView
 pub mod ProvedTable
 pub mod UnderflowIO

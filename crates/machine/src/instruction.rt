@@ -1,21 +1,11 @@
 // The instructions' table: size, argument and depth change of each opcode.
 ghost use mathlib.Core.Path.{_≡_};
 ghost use Rattle.machine.specs.Instruction.{decode, sizeOf};
-ghost use Rattle.machine.specs.InstructionView.{knownIn, kindIn, grownIn, shrunkIn};
+ghost use Rattle.machine.specs.InstructionView.{knownIn, kindIn, changeIn, grownIn, shrunkIn};
 ghost use Rattle.machine.specs.PlaceA.{unknown3, argument4};
 
-// How many slots an instruction takes: one with an argument takes two.
-pub fn size(opcode: u64) -> u64
-    ensures { λ r. ⌜ r ≡ sizeOf opcode ⌝ }
-{
-    match opcode {
-        1 | 3 | 9 | 11 | 17 | 19 | 25 | 33 | 41 | 49 | 57 | 65 | 73 => 2,
-        _ => 1,
-    }
-}
-
 // What argument it takes: 0 none, 1 a number of words, 2 a stack place, 3 any word; 4 where there is no such instruction.
-fn kind(opcode: u64) -> u64
+fn kind(opcode: u64) -> u8
     ensures { λ r. ⌜ r ≡ kindIn (decode opcode) ⌝ }
 {
     match opcode {
@@ -27,6 +17,14 @@ fn kind(opcode: u64) -> u64
         1 | 49 | 65 => 3,
         _ => 4,
     }
+}
+
+// How many slots an instruction takes: one with an argument takes two.
+pub fn size(opcode: u64) -> u64
+    ensures { λ r. ⌜ r ≡ sizeOf opcode ⌝ }
+{
+    let k = kind(opcode);
+    if k == 0 { 1 } else { if k < 4 { 2 } else { 1 } }
 }
 
 pub fn is_known(opcode: u64) -> bool
@@ -58,15 +56,35 @@ pub fn argument_fault(opcode: u64, argument: u64) -> u64
     }
 }
 
+// How it changes the depth: below 16 it grows by so many, from 16 on it shrinks; 32 and 33 by its argument; 34 where there is
+// no such instruction. All opcodes are named, so that the compiler makes a table of it.
+fn change(opcode: u64) -> u8
+    ensures { λ r. ⌜ r ≡ changeIn (decode opcode) ⌝ }
+{
+    match opcode {
+        0 | 8 | 12 | 16 | 20 | 24 | 28 | 32 | 36 | 40 | 44 | 48 | 64 | 72 | 80 | 88 => 0,
+        17 | 25 | 41 | 49 | 65 => 0,
+        1 | 4 | 33 => 1,
+        56 => 10,
+        2 | 6 | 10 | 14 | 22 | 30 | 42 | 50 | 58 | 82 => 17,
+        66 | 74 => 19,
+        18 | 26 => 21,
+        34 => 26,
+        9 | 57 | 73 => 32,
+        3 | 11 | 19 => 33,
+        _ => 34,
+    }
+}
+
 // How many words deeper the op stack is behind it.
 pub fn grown(opcode: u64, argument: u64) -> u64
     ensures { λ r. ⌜ r ≡ grownIn (decode opcode) argument ⌝ }
 {
-    match opcode {
-        1 | 4 | 33 => 1,
-        56 => 10,
-        9 | 57 | 73 => argument,
-        _ => 0,
+    let c = change(opcode);
+    if c == 32 {
+        argument
+    } else {
+        if c < 16 { c as u64 } else { 0 }
     }
 }
 
@@ -74,12 +92,13 @@ pub fn grown(opcode: u64, argument: u64) -> u64
 pub fn shrunk(opcode: u64, argument: u64) -> u64
     ensures { λ r. ⌜ r ≡ shrunkIn (decode opcode) argument ⌝ }
 {
-    match opcode {
-        2 | 6 | 10 | 14 | 22 | 30 | 42 | 50 | 58 | 82 => 1,
-        66 | 74 => 3,
-        18 | 26 => 5,
-        34 => 10,
-        3 | 11 | 19 => argument,
-        _ => 0,
+    let c = change(opcode);
+    if c == 33 {
+        return argument;
+    }
+    if c < 16 {
+        0
+    } else {
+        if c < 32 { (c - 16) as u64 } else { 0 }
     }
 }

@@ -1,36 +1,29 @@
 -- `machine::instruction::shrunk` meets its contract. Assumes nothing.
-use mathlib.Core.Path.{refl, sym}
-use mathlib.Core.List.{[], _∷_}
-use mathlib.Core.Logic.{⊎-elim}
-use Rattle.machine.specs.Instruction.{table, decode}
-use Rattle.machine.specs.InstructionView.{shrunkIn}
-use Rattle.machine.proofs.TableLaws.{arm, rest}
+use borrow.Author.Needs.{needs}
+use mathlib.Core.Path.{sym, _∙_}
+use borrow.Author.Tests.{eq-eqb, ne-eqb, lt-ltb, le-ltb}
+use Rattle.machine.proofs.TableLaws.{shrunk-by}
 use Rattle.machine.proofs.instruction.shrunk.Statement.{statement}
 use Rattle.machine.proofs.instruction.shrunk.Tie as tie
 
+change-requires : tie.Need-change-requires
+change-requires c κs = search needs
+
 returns : tie.Need-returns
-unfolding decode table
-returns c = sym (arm (λ op. shrunkIn (decode op) (c .before .args .argument)) 1 (2 ∷ 6 ∷ 10 ∷ 14 ∷ 22 ∷ 30 ∷ 42 ∷ 50 ∷ 58 ∷ 82 ∷ []) tt _ (c .match .keys1))
+returns c = sym (shrunk-by (c .before .before .args .opcode) (c .before .before .args .argument) (c .before .change .result) (c .before .change .ensures) ∙ simp (eq-eqb _ _ (c .if1 .taken)))
+
+cast-result : tie.Need-cast-result
+cast-result c = search needs
 
 returns-2 : tie.Need-returns-2
-unfolding decode table
-returns-2 c = sym (arm (λ op. shrunkIn (decode op) (c .before .args .argument)) 3 (66 ∷ 74 ∷ []) tt _ (c .match .keys2))
+returns-2 c = sym (shrunk-by (c .before .before .before .args .opcode) (c .before .before .before .args .argument) (c .before .before .change .result) (c .before .before .change .ensures) ∙ simp (ne-eqb _ _ (c .before .if1 .left), lt-ltb _ _ (c .if2 .taken)))
 
 returns-3 : tie.Need-returns-3
-unfolding decode table
-returns-3 c = sym (arm (λ op. shrunkIn (decode op) (c .before .args .argument)) 5 (18 ∷ 26 ∷ []) tt _ (c .match .keys3))
+returns-3 c = sym (shrunk-by (c .before .before .before .before .args .opcode) (c .before .before .before .before .args .argument) (c .before .before .before .change .result) (c .before .before .before .change .ensures) ∙ simp (ne-eqb _ _ (c .before .before .if1 .left), le-ltb _ _ (c .before .if2 .left), lt-ltb _ _ (c .if3 .taken)))
 
 returns-4 : tie.Need-returns-4
-unfolding decode table
-returns-4 c = sym (arm (λ op. shrunkIn (decode op) (c .before .args .argument)) 10 (34 ∷ []) tt _ (c .match .keys4))
-
-returns-5 : tie.Need-returns-5
-unfolding decode table
-returns-5 c = ⊎-elim (λ e. rw e) (⊎-elim (λ e. rw e) (λ e. rw e)) (c .match .keys5)
-
-returns-6 : tie.Need-returns-6
-unfolding decode table
-returns-6 c = sym (rest (λ d. shrunkIn d (c .before .args .argument)) 0 ((3 ∷ 11 ∷ 19 ∷ []) ∷ (34 ∷ []) ∷ (18 ∷ 26 ∷ []) ∷ (66 ∷ 74 ∷ []) ∷ (2 ∷ 6 ∷ 10 ∷ 14 ∷ 22 ∷ 30 ∷ 42 ∷ 50 ∷ 58 ∷ 82 ∷ []) ∷ []) table refl tt _ (c .match .rest))
+returns-4 c = sym (shrunk-by (c .before .before .before .before .args .opcode) (c .before .before .before .before .args .argument) (c .before .before .before .change .result) (c .before .before .before .change .ensures) ∙ simp (ne-eqb _ _ (c .before .before .if1 .left), le-ltb _ _ (c .before .if2 .left), le-ltb _ _ (c .if3 .left)))
 
 pub shrunk-spec : {M : Type 1} → statement M
-shrunk-spec = tie.close (tie.spec returns returns-2 returns-3 returns-4 returns-5 returns-6)
+shrunk-spec =
+    tie.close (tie.spec change-requires returns cast-result returns-2 returns-3 returns-4)

@@ -1,18 +1,26 @@
 -- `machine::instruction::size` meets its contract. Assumes nothing.
-use mathlib.Core.Path.{refl, sym}
-use mathlib.Core.List.{[], _∷_}
-use Rattle.machine.specs.Instruction.{table, decode, sizeIn, sizeOf}
-use Rattle.machine.proofs.TableLaws.{arm, rest}
+use borrow.Author.Needs.{needs}
+use mathlib.Core.Path.{sym, _∙_}
+use borrow.Author.Tests.{eq-eqb, ne-eqb, lt-ltb, le-ltb}
+use Rattle.machine.specs.Instruction.{decode, sizeOf}
+use Rattle.machine.proofs.TableLaws.{size-by}
 use Rattle.machine.proofs.instruction.size.Statement.{statement}
 use Rattle.machine.proofs.instruction.size.Tie as tie
 
+kind-requires : tie.Need-kind-requires
+kind-requires c κs = search needs
+
 returns : tie.Need-returns
-unfolding sizeOf decode table
-returns c = sym (arm (λ op. sizeOf op) 2 (1 ∷ 3 ∷ 9 ∷ 11 ∷ 17 ∷ 19 ∷ 25 ∷ 33 ∷ 41 ∷ 49 ∷ 57 ∷ 65 ∷ 73 ∷ []) tt _ (c .match .keys1))
+unfolding sizeOf
+returns c = sym (size-by (decode (c .before .before .args .opcode)) (c .before .kind .result) (c .before .kind .ensures) ∙ simp (eq-eqb _ _ (c .if1 .taken)))
 
 returns-2 : tie.Need-returns-2
-unfolding sizeOf decode table
-returns-2 c = sym (rest (λ d. sizeIn d) 1 ((1 ∷ 3 ∷ 9 ∷ 11 ∷ 17 ∷ 19 ∷ 25 ∷ 33 ∷ 41 ∷ 49 ∷ 57 ∷ 65 ∷ 73 ∷ []) ∷ []) table refl tt _ (c .match .rest))
+unfolding sizeOf
+returns-2 c = sym (size-by (decode (c .before .before .before .args .opcode)) (c .before .before .kind .result) (c .before .before .kind .ensures) ∙ simp (ne-eqb _ _ (c .before .if1 .left), lt-ltb _ _ (c .if2 .taken)))
+
+returns-3 : tie.Need-returns-3
+unfolding sizeOf
+returns-3 c = sym (size-by (decode (c .before .before .before .args .opcode)) (c .before .before .kind .result) (c .before .before .kind .ensures) ∙ simp (ne-eqb _ _ (c .before .if1 .left), le-ltb _ _ (c .if2 .left)))
 
 pub size-spec : {M : Type 1} → statement M
-size-spec = tie.close (tie.spec returns returns-2)
+size-spec = tie.close (tie.spec kind-requires returns returns-2 returns-3)

@@ -1,0 +1,31 @@
+-- `machine::checks::register_words` meets its contract. Assumes nothing.
+use borrow.Author.Needs.{needs}
+use Rattle.machine.specs.Words.{wordOf2}
+use Rattle.machine.proofs.checks.register_words.Statement.{statement}
+use Rattle.machine.proofs.checks.register_words.Tie as tie
+
+slice-aggregate-words-below : tie.Need-slice-aggregate-words-below
+slice-aggregate-words-below c = search needs
+
+words-below-requires : tie.Need-words-below-requires
+words-below-requires c κs = search needs
+
+above-requires : tie.Need-above-requires
+above-requires c κs = search needs
+
+first-requires : tie.Need-first-requires
+first-requires c κs = search needs
+
+returns : tie.Need-returns
+unfolding wordOf2
+returns c = cc
+
+pub register-words-spec : {M : Type 1} → statement M
+register-words-spec =
+    tie.close
+    (tie.spec
+    slice-aggregate-words-below
+    words-below-requires
+    above-requires
+    first-requires
+    returns)

@@ -1,0 +1,13 @@
+-- `machine::hashing::trace_first` meets its contract. Assumes nothing.
+use Rattle.machine.specs.EffectView.{effectOf, decisionOf}
+use Rattle.machine.specs.HashedView.{hashedOf}
+use Rattle.machine.proofs.HashedLaws.{first-by}
+use Rattle.machine.proofs.hashing.trace_first.Statement.{statement}
+use Rattle.machine.proofs.hashing.trace_first.Tie as tie
+
+returns : tie.Need-returns
+unfolding hashedOf decisionOf
+returns c = first-by (c .args .decided .verdict) (effectOf (c .args .decided .effect)) _ _
+
+pub trace-first-spec : {M : Type 1} → statement M
+trace-first-spec = tie.close (tie.spec returns)

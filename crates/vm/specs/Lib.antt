@@ -1,0 +1,4 @@
+-- What the contracts cite.
+pub mod DecideView
+pub mod PerformView
+pub mod StepView

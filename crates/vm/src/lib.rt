@@ -1,0 +1,5 @@
+// The machine's calls: what the next instruction does, a step, a run.
+pub mod answer;
+pub mod decide;
+pub mod limits;
+pub mod perform;
