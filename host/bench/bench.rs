@@ -254,10 +254,10 @@ fn seconds(mut f: impl FnMut()) -> f64 {
     start.elapsed().as_secs_f64()
 }
 
-// The best of fifteen turns of each, taken in turns so that a slow moment meets both.
+// The best of 400 short turns of each, taken in turns so that a slow moment meets both.
 fn report(name: &str, n: f64, mut ours: impl FnMut(), mut theirs: impl FnMut()) {
     let (mut a, mut b) = (f64::MAX, f64::MAX);
-    for _ in 0..15 {
+    for _ in 0..400 {
         a = a.min(seconds(&mut ours));
         b = b.min(seconds(&mut theirs));
     }
@@ -274,7 +274,7 @@ fn main() {
     let mut random = Random(0x9e37_79b9_7f4a_7c15);
     agree(&table, &mut random);
     let (a, b) = (black_box(random.next() % P), black_box(random.next() % P));
-    let n = 5_000_000;
+    let n = 200_000;
     report(
         "mul, one after another",
         n as f64,
@@ -295,7 +295,7 @@ fn main() {
     );
     let mut s: [u64; 16] = core::array::from_fn(|_| random.next() % P);
     let mut t = s;
-    let n = 50_000;
+    let n = 1_000;
     report(
         "Tip5 permutation",
         n as f64,

@@ -1,6 +1,6 @@
 -- A published vector, computed by the definitions: hash_10 of ten zeros. The program tip5_vectors runs the others.
-use mathlib.Core.Path.{_≡_, refl}
 use mathlib.Core.List.{[], _∷_}
+use mathlib.Core.Path.{_≡_, refl}
 use lib.ListN.{replicate}
 use Rattle.tip5.specs.Hash.{hash10Of}
 use Rattle.tip5.specs.Matrix.{column, sumTo, mdsOf}

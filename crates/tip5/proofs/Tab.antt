@@ -7,7 +7,7 @@ use native.Mathlib.Nat.{le-of-eq}
 use native.Mathlib.Numerals.{add-one}
 use native.Mathlib.Omega.{arith}
 use borrow.Author.Tests.{ltb-true, ltb-false}
-use lib.Dec.{ltb}
+use lib.Dec.{ltb, T, ltb→lt}
 use lib.ListN.{replicate, length, take, drop, getD, set, length-append, length-take, length-drop, List·getD-append}
 use lib.Seq.{take-suc-set, take-all, getD-at, getD-take, getD-drop, ext-getD}
 use Rattle.tip5.specs.Tab.{tab, tab-zero, tab-suc}
@@ -37,6 +37,18 @@ last-or-before f n k false e before h =
 pub tab-at : (f : ℕ → ℕ) (n k : ℕ) → k < n → getD (tab f n) k 0 ≡ f k
 tab-at f zero k h = absurd (omega arith)
 tab-at f (suc n) k h = ap (λ (l : List ℕ). getD l k 0) (tab-suc f n) ∙ last-or-before f n k (ltb k n) refl (tab-at f n k) h
+
+-- the end of a loop that fills the first n
+pub tab-first : (f : ℕ → ℕ) (l : List ℕ) (i n : ℕ) → i ≡ n → take i l ≡ tab f i → take n l ≡ tab f n
+tab-first f l i n g e = sym (ap (λ (k : ℕ). take k l) g) ∙ e ∙ ap (tab f) g
+
+-- what the loop has stored
+pub tab-stored : (f : ℕ → ℕ) (l : List ℕ) (i k : ℕ) → take i l ≡ tab f i → k < i → getD l k 0 ≡ f k
+tab-stored f l i k e h = sym (getD-take i l k 0 h) ∙ ap (λ (m : List ℕ). getD m k 0) e ∙ tab-at f i k h
+
+-- one computed equation, carried to each element
+pub tab-same : (f g : ℕ → ℕ) (n k : ℕ) → tab f n ≡ tab g n → k < n → f k ≡ g k
+tab-same f g n k e h = sym (tab-at f n k h) ∙ ap (λ (l : List ℕ). getD l k 0) e ∙ tab-at g n k h
 
 -- a list is what its elements make
 pub tab-of : (f : ℕ → ℕ) (n : ℕ) (l : List ℕ) → length l ≡ n → ((k : ℕ) → k < n → getD l k 0 ≡ f k) → l ≡ tab f n
@@ -79,3 +91,32 @@ pub tab-below : (f : ℕ → ℕ) (b : ℕ) → 0 < b → ((k : ℕ) → f k < b
 unfolding tab
 tab-below f b z h zero k = z
 tab-below f b z h (suc n) k = append-below (tab f n) (f n ∷ []) b (tab-below f b z h n) (one-below (f n) b z (h n)) k
+
+pub set-below : (l : List ℕ) (i a b : ℕ) → ((k : ℕ) → getD l k 0 < b) → a < b → (k : ℕ) → getD (set l i a) k 0 < b
+set-below [] i a b h g k = h k
+set-below (x ∷ l) zero a b h g zero = g
+set-below (x ∷ l) zero a b h g (suc k) = h (suc k)
+set-below (x ∷ l) (suc i) a b h g zero = h 0
+set-below (x ∷ l) (suc i) a b h g (suc k) = set-below l i a b (λ (j : ℕ). h (suc j)) g k
+
+-- a test that antt computes over a list, and what it says of each element
+abbrev pub both : Bool → Bool → Bool
+both true c = c
+both false c = false
+
+abbrev pub allBelow : ℕ → List ℕ → Bool
+allBelow b [] = true
+allBelow b (x ∷ l) = both (ltb x b) (allBelow b l)
+
+both-left : (a c : Bool) → T (both a c) → T a
+both-left true c t = tt
+both-left false c t = t
+
+both-right : (a c : Bool) → T (both a c) → T c
+both-right true c t = t
+both-right false c t = absurd t
+
+pub list-below : (b : ℕ) (l : List ℕ) → 0 < b → T (allBelow b l) → (k : ℕ) → getD l k 0 < b
+list-below b [] z t k = z
+list-below b (x ∷ l) z t zero = ltb→lt x b (both-left (ltb x b) (allBelow b l) t)
+list-below b (x ∷ l) z t (suc k) = list-below b l z (both-right (ltb x b) (allBelow b l) t) k

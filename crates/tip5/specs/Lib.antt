@@ -4,6 +4,7 @@ pub mod Words
 pub mod SplitAndLookup
 pub mod Sbox
 pub mod Matrix
+pub mod Split
 pub mod Round
 pub mod Permutation
 pub mod Sponge

@@ -40,10 +40,3 @@ rowOf s i = rowSum s i % p
 
 unfoldable pub mdsOf : List ℕ → List ℕ
 mdsOf s = tab (rowOf s) 16
-
--- the code's table of the matrix: the column downwards, twice
-abbrev pub entryFrom : ℕ → ℕ
-entryFrom k = getD column ((31 - k) % 16) 0
-
-unfoldable pub entries : List ℕ
-entries = tab entryFrom 31

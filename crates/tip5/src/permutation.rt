@@ -1,6 +1,6 @@
 // The permutation of sixteen words by five rounds, and its trace.
 ghost use Rattle.tip5.specs.Permutation.{Permuted, Traced};
-use crate::matrix::entry_table;
+use crate::matrix::coefficient_table;
 use crate::round::constant_table;
 use crate::round::round;
 use crate::split_and_lookup::lookup_table;
@@ -10,7 +10,7 @@ pub fn permuted(words: [u64; 16]) -> [u64; 16]
     ensures { λ r. ⌜ Permuted words r ⌝ }
 {
     let t = lookup_table();
-    let m = entry_table();
+    let m = coefficient_table();
     let k = constant_table();
     let mut s = words;
     let mut r: usize = 0;
@@ -26,7 +26,7 @@ pub fn trace(words: [u64; 16]) -> [u64; 96]
     ensures { λ r. ⌜ Traced words r ⌝ }
 {
     let t = lookup_table();
-    let m = entry_table();
+    let m = coefficient_table();
     let k = constant_table();
     let mut s = words;
     let mut out = [0u64; 96];

@@ -1,10 +1,13 @@
 // A round: the S-box layer, then the matrix, then the round constants.
 ghost use mathlib.Core.Path.{_≡_};
-ghost use Prim.Native.Nat.{_<_};
+ghost use Prim.Native.Nat.{_+_, _*_, _%_, _<_, _^_};
+ghost use Rattle.field.specs.Base.{p};
 ghost use Rattle.tip5.specs.SplitAndLookup.{lookups};
-ghost use Rattle.tip5.specs.Matrix.{entries, mdsOf};
+ghost use Rattle.tip5.specs.Matrix.{mdsOf};
+ghost use Rattle.tip5.specs.Split.{coefficients};
 ghost use Rattle.tip5.specs.Round.{constants, constantOf, withConstants, roundOf};
-use crate::matrix::row;
+use crate::matrix::halves;
+use crate::matrix::mds;
 use crate::sbox::sbox_layer;
 
 // At 16 * r + i stands the constant of round r and word i.
@@ -104,22 +107,39 @@ fn constant_at(k: &[u64; 80], r: usize, i: usize) -> u64
     k[16 * r + i]
 }
 
-// The matrix times s, with the constants of round r.
-fn linear_layer(m: &[u16; 31], k: &[u64; 80], s: &[u64; 16], r: usize) -> [u64; 16]
-    requires { ⌜ (r < 5) × (now m ≡ entries) × (now k ≡ constants) ⌝ }
+// hi * 2^32 + lo + k modulo p.
+fn finish(lo: u64, hi: u64, k: u64) -> u64
+    requires { ⌜ (lo < 2 ^ 53) × (hi < 2 ^ 53) ⌝ }
+    ensures { λ r. ⌜ r ≡ (hi * 2 ^ 32 + lo + k) % p ⌝ }
+{
+    let l = lo + k % 0x1_0000_0000;
+    let z = hi + k / 0x1_0000_0000 + l / 0x1_0000_0000;
+    field::base::reduce(
+        z / 0x1_0000_0000,
+        z % 0x1_0000_0000 * 0x1_0000_0000 + l % 0x1_0000_0000,
+    )
+}
+
+// The matrix times s by halves of the words, with the constants of round r.
+fn linear_layer(m: &[u32; 41], k: &[u64; 80], s: &[u64; 16], r: usize) -> [u64; 16]
+    requires { ⌜ (r < 5) × (now m ≡ coefficients) × (now k ≡ constants) ⌝ }
     ensures { λ o. ⌜ o ≡ withConstants r (mdsOf (now (s .entry))) ⌝ }
 {
+    let lower = halves(s, false);
+    let upper = halves(s, true);
+    let lo = mds(m, &lower);
+    let hi = mds(m, &upper);
     let mut out = [0u64; 16];
     let mut i: usize = 0;
     while i < 16 {
-        out[i] = row(m, s, i, constant_at(k, r, i));
+        out[i] = finish(lo[i], hi[i], constant_at(k, r, i));
         i += 1;
     }
     out
 }
 
-pub fn round(t: &[u8; 256], m: &[u16; 31], k: &[u64; 80], s: &[u64; 16], r: usize) -> [u64; 16]
-    requires { ⌜ (r < 5) × (now t ≡ lookups) × (now m ≡ entries) × (now k ≡ constants) ⌝ }
+pub fn round(t: &[u8; 256], m: &[u32; 41], k: &[u64; 80], s: &[u64; 16], r: usize) -> [u64; 16]
+    requires { ⌜ (r < 5) × (now t ≡ lookups) × (now m ≡ coefficients) × (now k ≡ constants) ⌝ }
     ensures { λ o. ⌜ o ≡ roundOf r (now (s .entry)) ⌝ }
 {
     let b = sbox_layer(t, s);

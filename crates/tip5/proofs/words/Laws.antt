@@ -1,4 +1,4 @@
--- Copying words: one turn of the loop, and the copies that stand at a list's start. Assumes nothing.
+-- Copying words: one turn of the loop. Assumes nothing.
 use mathlib.Core.List.{List}
 use mathlib.Core.Path.{_≡_, sym, ap, _∙_}
 use Prim.Native.Nat.{ℕ, _+_, _<_}

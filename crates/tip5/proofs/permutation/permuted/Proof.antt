@@ -18,8 +18,8 @@ abbrev μ-loop : tie.MeasureT-loop
 lookup-table-requires : tie.Need-lookup-table-requires Inv-loop μ-loop
 lookup-table-requires c κs = search needs
 
-entry-table-requires : tie.Need-entry-table-requires Inv-loop μ-loop
-entry-table-requires c κs = search needs
+coefficient-table-requires : tie.Need-coefficient-table-requires Inv-loop μ-loop
+coefficient-table-requires c κs = search needs
 
 constant-table-requires : tie.Need-constant-table-requires Inv-loop μ-loop
 constant-table-requires c κs = search needs
@@ -57,7 +57,7 @@ permuted-spec =
     Inv-loop
     μ-loop
     lookup-table-requires
-    entry-table-requires
+    coefficient-table-requires
     constant-table-requires
     loop-holds
     round-requires
