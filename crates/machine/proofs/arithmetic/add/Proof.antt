@@ -1,16 +1,10 @@
+-- `machine::arithmetic::add` meets its contract. Assumes nothing.
 use Rattle.machine.specs.Arithmetic.{addOf}
 use Rattle.machine.proofs.Words.{words-getD}
-use Prim.Native.Nat.{ℕ, _+_, _*_, _-_, _/_, _%_, _^_, _<_, _≤_}
-use native.Mathlib.Omega.{arith}
-use mathlib.Core.Path.{_≡_, refl, sym, ap, _∙_}
-use lib.ListN.{length}
+use Prim.Native.Nat.{_-_}
 use borrow.Author.Needs.{needs}
 use Rattle.machine.proofs.arithmetic.add.Statement.{statement}
 use Rattle.machine.proofs.arithmetic.add.Tie as tie
-use Rattle.machine.proofs.arithmetic.add.Reads as reads
-use Rattle.machine.proofs.arithmetic.add.Lts as lts
-use Rattle.field.proofs.base.add.Reads as add-reads
-use Rattle.machine.proofs.effect.put1.Reads as put1-reads
 
 array-read-add : tie.Need-array-read-add
 array-read-add c = search needs

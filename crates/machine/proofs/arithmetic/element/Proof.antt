@@ -1,13 +1,11 @@
+-- `machine::arithmetic::element` meets its contract. Assumes nothing.
 use Rattle.machine.proofs.Words.{words-getD}
-use Prim.Native.Nat.{ℕ, _+_, _*_, _-_, _/_, _%_, _^_, _<_, _≤_}
+use Prim.Native.Nat.{_+_, _-_}
 use native.Mathlib.Omega.{arith}
-use mathlib.Core.Path.{_≡_, refl, sym, ap, _∙_}
-use lib.ListN.{length}
+use mathlib.Core.Path.{_≡_}
 use borrow.Author.Needs.{needs}
 use Rattle.machine.proofs.arithmetic.element.Statement.{statement}
 use Rattle.machine.proofs.arithmetic.element.Tie as tie
-use Rattle.machine.proofs.arithmetic.element.Reads as reads
-use Rattle.machine.proofs.arithmetic.element.Lts as lts
 
 sub-t4 : tie.Need-sub-t4
 sub-t4 c = search needs

@@ -1,15 +1,10 @@
+-- `machine::arithmetic::eq` meets its contract. Assumes nothing.
 use borrow.Author.Tests.{eq-eqb, ne-eqb}
 use Rattle.machine.specs.Arithmetic.{eqOf}
-use Prim.Native.Nat.{ℕ, _+_, _*_, _-_, _/_, _%_, _^_, _<_, _≤_}
-use native.Mathlib.Omega.{arith}
-use mathlib.Core.Path.{_≡_, refl, sym, ap, _∙_}
-use lib.ListN.{length}
+use Prim.Native.Nat.{_-_}
 use borrow.Author.Needs.{needs}
 use Rattle.machine.proofs.arithmetic.eq.Statement.{statement}
 use Rattle.machine.proofs.arithmetic.eq.Tie as tie
-use Rattle.machine.proofs.arithmetic.eq.Reads as reads
-use Rattle.machine.proofs.arithmetic.eq.Lts as lts
-use Rattle.machine.proofs.effect.put1.Reads as put1-reads
 
 array-read-if1 : tie.Need-array-read-if1
 array-read-if1 c = search needs

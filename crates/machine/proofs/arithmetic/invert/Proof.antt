@@ -1,19 +1,12 @@
+-- `machine::arithmetic::invert` meets its contract. Assumes nothing.
 use Rattle.machine.specs.Refusal.{refusalOf}
 use borrow.Author.Tests.{eq-eqb, ne-eqb}
 use Rattle.machine.specs.Arithmetic.{invertOf}
 use Rattle.machine.proofs.Words.{words-getD}
-use Prim.Native.Nat.{ℕ, _+_, _*_, _-_, _/_, _%_, _^_, _<_, _≤_}
-use native.Mathlib.Omega.{arith}
-use mathlib.Core.Path.{_≡_, refl, sym, ap, _∙_}
-use lib.ListN.{length}
+use Prim.Native.Nat.{_-_}
 use borrow.Author.Needs.{needs}
 use Rattle.machine.proofs.arithmetic.invert.Statement.{statement}
 use Rattle.machine.proofs.arithmetic.invert.Tie as tie
-use Rattle.machine.proofs.arithmetic.invert.Reads as reads
-use Rattle.machine.proofs.arithmetic.invert.Lts as lts
-use Rattle.field.proofs.base.inverse_or_zero.Reads as inverse-or-zero-reads
-use Rattle.machine.proofs.effect.put1.Reads as put1-reads
-use Rattle.machine.proofs.effect.refuse.Reads as refuse-reads
 
 array-read-a : tie.Need-array-read-a
 array-read-a c = search needs

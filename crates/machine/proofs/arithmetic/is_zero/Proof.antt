@@ -1,13 +1,9 @@
+-- `machine::arithmetic::is_zero` meets its contract. Assumes nothing.
 use Rattle.machine.specs.Arithmetic.{zeroX}
 use borrow.Author.Tests.{eq-eqb, ne-eqb}
-use Prim.Native.Nat.{ℕ, _+_, _*_, _-_, _/_, _%_, _^_, _<_, _≤_}
-use native.Mathlib.Omega.{arith}
-use mathlib.Core.Path.{_≡_, refl, sym, ap, _∙_}
-use lib.ListN.{length}
+use Prim.Native.Nat.{_-_}
 use Rattle.machine.proofs.arithmetic.is_zero.Statement.{statement}
 use Rattle.machine.proofs.arithmetic.is_zero.Tie as tie
-use Rattle.machine.proofs.arithmetic.is_zero.Reads as reads
-use Rattle.machine.proofs.arithmetic.is_zero.Lts as lts
 
 returns : tie.Need-returns
 unfolding zeroX

@@ -1,15 +1,9 @@
+-- `machine::arithmetic::mul` meets its contract. Assumes nothing.
 use Rattle.machine.specs.Arithmetic.{mulOf}
-use Prim.Native.Nat.{ℕ, _+_, _*_, _-_, _/_, _%_, _^_, _<_, _≤_}
-use native.Mathlib.Omega.{arith}
-use mathlib.Core.Path.{_≡_, refl, sym, ap, _∙_}
-use lib.ListN.{length}
+use Prim.Native.Nat.{_-_}
 use borrow.Author.Needs.{needs}
 use Rattle.machine.proofs.arithmetic.mul.Statement.{statement}
 use Rattle.machine.proofs.arithmetic.mul.Tie as tie
-use Rattle.machine.proofs.arithmetic.mul.Reads as reads
-use Rattle.machine.proofs.arithmetic.mul.Lts as lts
-use Rattle.field.proofs.base.mul.Reads as mul-reads
-use Rattle.machine.proofs.effect.put1.Reads as put1-reads
 
 array-read-mul : tie.Need-array-read-mul
 array-read-mul c = search needs

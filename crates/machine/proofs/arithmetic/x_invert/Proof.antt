@@ -1,21 +1,13 @@
+-- `machine::arithmetic::x_invert` meets its contract. Assumes nothing.
 use mathlib.Core.Bool.{true, false}
 use Rattle.machine.specs.Arithmetic.{zeroX, xst}
 use Rattle.machine.specs.Arithmetic.{xInvertOf}
 use Rattle.machine.specs.Refusal.{refusalOf}
-use Prim.Native.Nat.{ℕ, _+_, _*_, _-_, _/_, _%_, _^_, _<_, _≤_}
-use native.Mathlib.Omega.{arith}
-use mathlib.Core.Path.{_≡_, refl, sym, ap, _∙_}
-use lib.ListN.{length}
+use Prim.Native.Nat.{_-_}
+use mathlib.Core.Path.{_≡_, sym, ap, _∙_}
 use borrow.Author.Needs.{needs}
 use Rattle.machine.proofs.arithmetic.x_invert.Statement.{statement}
 use Rattle.machine.proofs.arithmetic.x_invert.Tie as tie
-use Rattle.machine.proofs.arithmetic.x_invert.Reads as reads
-use Rattle.machine.proofs.arithmetic.x_invert.Lts as lts
-use Rattle.field.proofs.extension.inverse_or_zero.Reads as inverse-or-zero-reads
-use Rattle.machine.proofs.arithmetic.element.Reads as element-reads
-use Rattle.machine.proofs.arithmetic.is_zero.Reads as is-zero-reads
-use Rattle.machine.proofs.effect.put3.Reads as put3-reads
-use Rattle.machine.proofs.effect.refuse.Reads as refuse-reads
 
 element-requires : tie.Need-element-requires
 element-requires c κs = search needs

@@ -1,16 +1,9 @@
+-- `machine::arithmetic::xb_mul` meets its contract. Assumes nothing.
 use Rattle.machine.specs.Arithmetic.{xbMulOf}
-use Prim.Native.Nat.{ℕ, _+_, _*_, _-_, _/_, _%_, _^_, _<_, _≤_}
-use native.Mathlib.Omega.{arith}
-use mathlib.Core.Path.{_≡_, refl, sym, ap, _∙_}
-use lib.ListN.{length}
+use Prim.Native.Nat.{_-_}
 use borrow.Author.Needs.{needs}
 use Rattle.machine.proofs.arithmetic.xb_mul.Statement.{statement}
 use Rattle.machine.proofs.arithmetic.xb_mul.Tie as tie
-use Rattle.machine.proofs.arithmetic.xb_mul.Reads as reads
-use Rattle.machine.proofs.arithmetic.xb_mul.Lts as lts
-use Rattle.field.proofs.extension.scale.Reads as scale-reads
-use Rattle.machine.proofs.arithmetic.element.Reads as element-reads
-use Rattle.machine.proofs.effect.put3.Reads as put3-reads
 
 array-read-scale : tie.Need-array-read-scale
 array-read-scale c = search needs

@@ -1,16 +1,9 @@
+-- `machine::arithmetic::xx_add` meets its contract. Assumes nothing.
 use Rattle.machine.specs.Arithmetic.{xxAddOf}
-use Prim.Native.Nat.{ℕ, _+_, _*_, _-_, _/_, _%_, _^_, _<_, _≤_}
-use native.Mathlib.Omega.{arith}
-use mathlib.Core.Path.{_≡_, refl, sym, ap, _∙_}
-use lib.ListN.{length}
+use Prim.Native.Nat.{_-_}
 use borrow.Author.Needs.{needs}
 use Rattle.machine.proofs.arithmetic.xx_add.Statement.{statement}
 use Rattle.machine.proofs.arithmetic.xx_add.Tie as tie
-use Rattle.machine.proofs.arithmetic.xx_add.Reads as reads
-use Rattle.machine.proofs.arithmetic.xx_add.Lts as lts
-use Rattle.field.proofs.extension.add.Reads as add-reads
-use Rattle.machine.proofs.arithmetic.element.Reads as element-reads
-use Rattle.machine.proofs.effect.put3.Reads as put3-reads
 
 element-requires : tie.Need-element-requires
 element-requires c κs = search needs

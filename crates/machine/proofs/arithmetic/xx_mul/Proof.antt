@@ -1,16 +1,9 @@
+-- `machine::arithmetic::xx_mul` meets its contract. Assumes nothing.
 use Rattle.machine.specs.Arithmetic.{xxMulOf}
-use Prim.Native.Nat.{ℕ, _+_, _*_, _-_, _/_, _%_, _^_, _<_, _≤_}
-use native.Mathlib.Omega.{arith}
-use mathlib.Core.Path.{_≡_, refl, sym, ap, _∙_}
-use lib.ListN.{length}
+use Prim.Native.Nat.{_-_}
 use borrow.Author.Needs.{needs}
 use Rattle.machine.proofs.arithmetic.xx_mul.Statement.{statement}
 use Rattle.machine.proofs.arithmetic.xx_mul.Tie as tie
-use Rattle.machine.proofs.arithmetic.xx_mul.Reads as reads
-use Rattle.machine.proofs.arithmetic.xx_mul.Lts as lts
-use Rattle.field.proofs.extension.mul.Reads as mul-reads
-use Rattle.machine.proofs.arithmetic.element.Reads as element-reads
-use Rattle.machine.proofs.effect.put3.Reads as put3-reads
 
 element-requires : tie.Need-element-requires
 element-requires c κs = search needs

@@ -1,11 +1,9 @@
-use Prim.Native.Nat.{ℕ, _+_, _*_, _-_, _/_, _%_, _^_, _<_, _≤_}
-use native.Mathlib.Omega.{arith}
-use mathlib.Core.Path.{_≡_, refl, sym, ap, _∙_}
-use Rattle.machine.specs.EffectView.{decisionOf, effectOf, accessesFrom}
+-- `machine::effect::act` meets its contract. Assumes nothing.
+use Prim.Native.Nat.{_-_}
+use mathlib.Core.Path.{refl}
+use Rattle.machine.specs.EffectView.{decisionOf}
 use Rattle.machine.proofs.effect.act.Statement.{statement}
 use Rattle.machine.proofs.effect.act.Tie as tie
-use Rattle.machine.proofs.effect.act.Reads as reads
-use Rattle.machine.proofs.effect.act.Lts as lts
 
 returns : tie.Need-returns
 unfolding decisionOf

@@ -1,16 +1,10 @@
+-- `machine::effect::puts` meets its contract. Assumes nothing.
 use Rattle.machine.specs.EffectView.{u32sOf}
-use Rattle.machine.specs.EffectView.{decisionOf, effectOf, accessesFrom}
-use Prim.Native.Nat.{ℕ, _+_, _*_, _-_, _/_, _%_, _^_, _<_, _≤_}
-use native.Mathlib.Omega.{arith}
-use mathlib.Core.Path.{_≡_, refl, sym, ap, _∙_}
-use lib.ListN.{length}
+use Rattle.machine.specs.EffectView.{effectOf, accessesFrom}
+use Prim.Native.Nat.{_-_}
 use borrow.Author.Needs.{needs}
 use Rattle.machine.proofs.effect.puts.Statement.{statement}
 use Rattle.machine.proofs.effect.puts.Tie as tie
-use Rattle.machine.proofs.effect.puts.Reads as reads
-use Rattle.machine.proofs.effect.puts.Lts as lts
-use Rattle.machine.proofs.effect.act.Reads as act-reads
-use Rattle.machine.proofs.effect.nothing.Reads as nothing-reads
 
 nothing-requires : tie.Need-nothing-requires
 nothing-requires c κs = search needs

@@ -1,14 +1,10 @@
-use Rattle.machine.specs.EffectView.{decisionOf, effectOf, accessesFrom}
-use Prim.Native.Nat.{ℕ, _+_, _*_, _-_, _/_, _%_, _^_, _<_, _≤_}
-use native.Mathlib.Omega.{arith}
-use mathlib.Core.Path.{_≡_, refl, sym, ap, _∙_}
-use lib.ListN.{length}
+-- `machine::effect::refuse` meets its contract. Assumes nothing.
+use Rattle.machine.specs.EffectView.{decisionOf}
+use Prim.Native.Nat.{_-_}
+use mathlib.Core.Path.{refl}
 use borrow.Author.Needs.{needs}
 use Rattle.machine.proofs.effect.refuse.Statement.{statement}
 use Rattle.machine.proofs.effect.refuse.Tie as tie
-use Rattle.machine.proofs.effect.refuse.Reads as reads
-use Rattle.machine.proofs.effect.refuse.Lts as lts
-use Rattle.machine.proofs.effect.nothing.Reads as nothing-reads
 
 nothing-requires : tie.Need-nothing-requires
 nothing-requires c κs = search needs

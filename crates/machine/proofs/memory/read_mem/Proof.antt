@@ -1,10 +1,7 @@
 -- `machine::memory::read_mem` meets its contract. Assumes nothing.
 use borrow.Author.Needs.{needs}
-use mathlib.Core.Path.{_≡_}
 use mathlib.Core.List.{append-nil}
-use Prim.Native.Nat.{_≤_}
 use native.Mathlib.Omega.{arith}
-use lib.ListN.{length}
 use Rattle.machine.specs.EffectView.{accessesFrom}
 use Rattle.machine.specs.Memory.{readMemOf}
 use Rattle.machine.proofs.MemoryView.{words-end}

@@ -1,15 +1,15 @@
 -- `machine::memory::read_up` meets its contract. Assumes nothing.
 use borrow.Author.Needs.{needs}
-use mathlib.Core.Path.{_≡_, refl, sym, ap, _∙_}
+use mathlib.Core.Path.{_≡_, ap, _∙_}
 use mathlib.Core.List.{_++_}
-use Prim.Native.Nat.{ℕ, _+_, _-_, _<_, _≤_}
+use Prim.Native.Nat.{ℕ, _+_, _-_, _≤_}
 use native.Mathlib.Omega.{arith}
 use denote.Ref.{now}
 use lib.ListN.{length, length-set, take}
-use Rattle.field.specs.Base.{p, addP, subP}
+use Rattle.field.specs.Base.{addP}
 use Rattle.machine.specs.Ram.{cells}
 use Rattle.machine.specs.Effect.{ramRead}
-use Rattle.machine.specs.EffectView.{accessesFrom, readsFrom}
+use Rattle.machine.specs.EffectView.{readsFrom}
 use Rattle.machine.specs.Memory.{wordsUp, readsUp}
 use Rattle.machine.proofs.MemoryView.{accesses-turn, words-turn, words-up, reads-up, up-none, done, start, up-next, up-first}
 use Rattle.machine.proofs.memory.read_up.Statement.{statement}

@@ -1,7 +1,7 @@
 -- `machine::op_stack::clear` meets its contract. Assumes nothing.
 use borrow.Author.Needs.{needs}
-use mathlib.Core.Path.{_≡_, refl, sym, ap, _∙_}
-use Prim.Native.Nat.{ℕ, _+_, _-_, _<_, _≤_}
+use mathlib.Core.Path.{_≡_, refl}
+use Prim.Native.Nat.{_-_, _≤_}
 use native.Mathlib.Omega.{arith}
 use lib.ListN.{length, length-set, replicate}
 use Rattle.machine.specs.Copied.{copied}

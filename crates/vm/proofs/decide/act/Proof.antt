@@ -1,6 +1,6 @@
 -- `vm::decide::act` meets its contract: each arm is its instruction, and the rest is no instruction. Assumes nothing.
 use borrow.Author.Needs.{needs}
-use mathlib.Core.Path.{_≡_, refl, sym, ap, _∙_}
+use mathlib.Core.Path.{refl, sym, ap, _∙_}
 use mathlib.Core.List.{[], _∷_}
 use Rattle.machine.specs.Refusal.{refusalOf}
 use Rattle.machine.specs.Instruction.{Decoded, table, decode}

@@ -1,6 +1,6 @@
 -- `vm::decide::act_hashing` meets its contract: each arm is its instruction, and there is no rest. Assumes nothing.
 use borrow.Author.Needs.{needs}
-use mathlib.Core.Path.{_≡_, sym, _∙_}
+use mathlib.Core.Path.{sym, _∙_}
 use mathlib.Core.Bool.{true≢false}
 use lib.Dec.{lit≤}
 use Rattle.machine.specs.Instruction.{table, decode}

@@ -1,6 +1,6 @@
 -- `vm::step::settle` meets its contract. Assumes nothing.
 use borrow.Author.Needs.{needs}
-use mathlib.Core.Path.{_≡_, sym, _∙_}
+use mathlib.Core.Path.{sym, _∙_}
 use Rattle.vm.proofs.StepLaws.{noCode, limit-number, settled-took, settled-kept}
 use Rattle.vm.proofs.step.settle.Statement.{statement}
 use Rattle.vm.proofs.step.settle.Tie as tie
