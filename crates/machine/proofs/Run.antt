@@ -229,7 +229,7 @@ module _ (decide : Machine → Decision) where
 
     -- where what a refusing skiz drops leaves sixteen words, run leaves a sound machine however it ends
     module _ (deep : (m : Machine) → Sound m → (r : Refusal) → decide m ≡ drops r → 17 ≤ m .state .depth) where
-      lost-sound : (m : Machine) (r : Refusal) (x : Machine) → Sound m → outcomeBy decide m ≡ lost r x → Sound x
+      pub lost-sound : (m : Machine) (r : Refusal) (x : Machine) → Sound m → outcomeBy decide m ≡ lost r x → Sound x
       lost-sound m r x s e =
           let k = step-lost decide m r x e in
           rw (← k .1) (dropped-sound m s (deep m s r (k .0)))

@@ -1,0 +1,145 @@
+-- Only skiz drops a word, and then the depth is 17 or more: so place A accepts what a refused skiz leaves, as it accepts what a step and
+-- a run leave. Assumes nothing.
+use mathlib.Core.Path.{_≡_, refl, subst}
+use mathlib.Core.Bool.{Bool, true, false}
+use Prim.Native.Nat.{ℕ, _+_, _^_, _≤_}
+use native.Mathlib.Omega.{arith}
+use borrow.Author.Tests.{ltb-false}
+use lib.ListN.{length}
+use lib.Dec.{eqb, ltb}
+use Rattle.machine.specs.Choice.{cond}
+use Rattle.machine.specs.Refusal.{Refusal, opStackTooShallow}
+use Rattle.machine.specs.Instruction.{Row, table, Decoded, known, unknown, decode, grownBy, shrunkBy}
+use Rattle.machine.specs.Machine.{Machine, JumpTop, empty, entry, jumpTop, top, st, publicLeft, secretLeft, digestsLeft}
+use Rattle.machine.specs.Effect.{Effect, Decision, acts, refuses, drops}
+use Rattle.machine.specs.Stack.{pushOf, popOf, divineOf, pickOf, placeOf, dupOf, swapOf}
+use Rattle.machine.specs.Control.{haltOf, nopOf, skizOf, callOf, returnOf, recurseOf, recurseOrReturnOf, assertOf}
+use Rattle.machine.specs.Memory.{readMemOf, writeMemOf}
+use Rattle.machine.specs.Hashing.{hashOf, assertFrom, assertVectorOf, spongeInitOf, spongeAbsorbOf, spongeAbsorbMemOf, spongeSqueezeOf}
+use Rattle.machine.specs.Arithmetic.{addOf, addiOf, mulOf, invertOf, eqOf, xxAddOf, xxMulOf, xInvertOf, xbMulOf, zeroX, xst}
+use Rattle.machine.specs.Bitwise.{splitOf, ltOf, andOf, xorOf, log2FloorOf, powOf, divModOf, popCountOf}
+use Rattle.machine.specs.InputOutput.{readIoOf, writeIoOf}
+use Rattle.machine.specs.ManyInOne.{merkleStepOf, merkleStepMemOf, xxDotStepOf, xbDotStepOf}
+use Rattle.machine.specs.Decide.{opcodeOf, argumentOf, effectOf, decideIn, decideOf}
+use Rattle.machine.specs.Apply.{took, lost}
+use Rattle.machine.specs.PlaceA.{machineA}
+use Rattle.machine.specs.Step.{outcomeBy, runOf}
+use Rattle.machine.specs.Sound.{Sound}
+use Rattle.machine.proofs.Rows.{Each, gathered, each-decode}
+use Rattle.machine.proofs.PlaceA.{machine-accepted}
+use Rattle.machine.proofs.Facts.{facts}
+use Rattle.machine.proofs.Step.{step-sound}
+use Rattle.machine.proofs.Run.{lost-sound, run-sound}
+
+-- P where a decision drops
+pub data Drops (P : Type 0) : Decision → Type 0 where
+  acting : {e : Effect} → Drops P (acts e)
+  refusing : {r : Refusal} → Drops P (refuses r)
+  dropping : {r : Refusal} → P → Drops P (drops r)
+
+dropped-by : {P : Type 0} {r : Refusal} → Drops P (drops r) → P
+dropped-by (dropping h) = h
+
+module _ {P : Type 0} where
+  either : {a b : Decision} (t : Bool) → Drops P a → Drops P b → Drops P (cond t a b)
+  either true h k = h
+  either false h k = k
+
+  of-return : (j : JumpTop) → Drops P (returnOf j)
+  unfolding returnOf
+  of-return empty = refusing
+  of-return (entry o d) = acting
+
+  of-recurse : (j : JumpTop) → Drops P (recurseOf j)
+  unfolding recurseOf
+  of-recurse empty = refusing
+  of-recurse (entry o d) = acting
+
+-- a row's instruction drops only where it takes one word more than it puts on
+abbrev RowDrops : Machine → Row → Type 0
+RowDrops m r = (n : ℕ) → Drops (1 + grownBy (r .change) n ≤ shrunkBy (r .change) n) (effectOf (r .instruction) n m)
+
+rows : (m : Machine) → Each (RowDrops m) table
+unfolding table effectOf pushOf popOf divineOf pickOf placeOf dupOf swapOf haltOf nopOf skizOf callOf recurseOrReturnOf assertOf readMemOf writeMemOf hashOf assertFrom assertVectorOf spongeInitOf spongeAbsorbOf spongeAbsorbMemOf spongeSqueezeOf addOf addiOf mulOf invertOf eqOf xxAddOf xxMulOf xInvertOf xbMulOf splitOf ltOf andOf xorOf log2FloorOf powOf divModOf popCountOf readIoOf writeIoOf merkleStepOf merkleStepMemOf xxDotStepOf xbDotStepOf
+rows m =
+    gathered (RowDrops m) table
+    (λ n. acting)
+    (λ n. acting)
+    (λ n. either (ltb (length (secretLeft m)) n) refusing acting)
+    (λ n. acting)
+    (λ n. acting)
+    (λ n. acting)
+    (λ n. acting)
+    (λ n. acting)
+    (λ n. acting)
+    (λ n. either (eqb (st (top m) 0) 0) (either (ltb (m .state .pointer + 1) (length (m .code .opcodes))) acting (dropping (omega arith))) acting)
+    (λ n. acting)
+    (λ n. of-return (jumpTop m))
+    (λ n. of-recurse (jumpTop m))
+    (λ n. either (eqb (st (top m) 5) (st (top m) 6)) (of-return (jumpTop m)) (of-recurse (jumpTop m)))
+    (λ n. either (eqb (st (top m) 0) 1) acting refusing)
+    (λ n. acting)
+    (λ n. acting)
+    (λ n. acting)
+    (λ n. either (eqb (st (top m) 0) (st (top m) 5)) (either (eqb (st (top m) 1) (st (top m) 6)) (either (eqb (st (top m) 2) (st (top m) 7)) (either (eqb (st (top m) 3) (st (top m) 8)) (either (eqb (st (top m) 4) (st (top m) 9)) acting refusing) refusing) refusing) refusing) refusing)
+    (λ n. acting)
+    (λ n. either (m .state .sponge .set) acting refusing)
+    (λ n. either (m .state .sponge .set) acting refusing)
+    (λ n. either (m .state .sponge .set) acting refusing)
+    (λ n. acting)
+    (λ n. acting)
+    (λ n. acting)
+    (λ n. either (eqb (st (top m) 0) 0) refusing acting)
+    (λ n. acting)
+    (λ n. acting)
+    (λ n. either (ltb (st (top m) 0) (2 ^ 32)) (either (ltb (st (top m) 1) (2 ^ 32)) acting refusing) refusing)
+    (λ n. either (ltb (st (top m) 0) (2 ^ 32)) (either (ltb (st (top m) 1) (2 ^ 32)) acting refusing) refusing)
+    (λ n. either (ltb (st (top m) 0) (2 ^ 32)) (either (ltb (st (top m) 1) (2 ^ 32)) acting refusing) refusing)
+    (λ n. either (ltb (st (top m) 0) (2 ^ 32)) (either (eqb (st (top m) 0) 0) refusing acting) refusing)
+    (λ n. either (ltb (st (top m) 1) (2 ^ 32)) acting refusing)
+    (λ n. either (ltb (st (top m) 0) (2 ^ 32)) (either (ltb (st (top m) 1) (2 ^ 32)) (either (eqb (st (top m) 1) 0) refusing acting) refusing) refusing)
+    (λ n. either (ltb (st (top m) 0) (2 ^ 32)) acting refusing)
+    (λ n. acting)
+    (λ n. acting)
+    (λ n. either (zeroX (xst (top m) 0)) refusing acting)
+    (λ n. acting)
+    (λ n. either (ltb (length (publicLeft m)) n) refusing acting)
+    (λ n. acting)
+    (λ n. either (ltb (st (top m) 5) (2 ^ 32)) (either (ltb (length (digestsLeft m)) 5) refusing acting) refusing)
+    (λ n. either (ltb (st (top m) 5) (2 ^ 32)) acting refusing)
+    (λ n. acting)
+    (λ n. acting)
+
+drops-map : {P Q : Type 0} {d : Decision} → (P → Q) → Drops P d → Drops Q d
+drops-map f acting = acting
+drops-map f refusing = refusing
+drops-map f (dropping h) = dropping (f h)
+
+-- at the depths that 12 lets pass
+deep-enough : (d g s : ℕ) (t : Bool) → ltb (d + g) (16 + s) ≡ t → (r : Refusal) (x : Decision) → Drops (1 + g ≤ s) x → Drops (17 ≤ d) (cond t (refuses r) x)
+deep-enough d g s true e r x h = refusing
+deep-enough d g s false e r x h = drops-map (λ k. omega (arith, ltb-false (d + g) (16 + s) e)) h
+
+deep-in : (m : Machine) (d : Decoded) → decode (opcodeOf m) ≡ d → Drops (17 ≤ m .state .depth) (decideIn d (argumentOf m) m)
+deep-in m unknown e = refusing
+deep-in m (known r) e =
+    deep-enough (m .state .depth) (grownBy (r .change) (argumentOf m)) (shrunkBy (r .change) (argumentOf m)) (ltb (m .state .depth + grownBy (r .change) (argumentOf m)) (16 + shrunkBy (r .change) (argumentOf m))) refl opStackTooShallow (effectOf (r .instruction) (argumentOf m) m)
+    (each-decode (RowDrops m) (opcodeOf m) r (rows m) e (argumentOf m))
+
+deep : (m : Machine) → Drops (17 ≤ m .state .depth) (decideOf m)
+unfolding decideOf
+deep m = either (m .state .halted) refusing (either (ltb (m .state .pointer) (length (m .code .opcodes))) (deep-in m (decode (opcodeOf m)) refl) refusing)
+
+pub drops-deep : (m : Machine) (r : Refusal) → decideOf m ≡ drops r → 17 ≤ m .state .depth
+drops-deep m r e = dropped-by (subst (Drops (17 ≤ m .state .depth)) e (deep m))
+
+-- ---- what a step and a run leave passes place A
+
+pub took-accepted : (m x : Machine) → Sound m → outcomeBy decideOf m ≡ took x → machineA x ≡ 0
+took-accepted m x s e = machine-accepted x (step-sound decideOf facts m x s e)
+
+pub lost-accepted : (m : Machine) (r : Refusal) (x : Machine) → Sound m → outcomeBy decideOf m ≡ lost r x → machineA x ≡ 0
+lost-accepted m r x s e = machine-accepted x (lost-sound decideOf facts (λ m s r e. drops-deep m r e) m r x s e)
+
+pub run-accepted : (n : ℕ) (m : Machine) → Sound m → machineA (runOf n m .left) ≡ 0
+run-accepted n m s = machine-accepted (runOf n m .left) (run-sound decideOf facts (λ m s r e. drops-deep m r e) n m s)
