@@ -10,6 +10,7 @@ use lib.Dec.{eqb, ltb}
 use Rattle.machine.specs.Choice.{cond}
 use Rattle.machine.specs.Refusal.{Refusal, opStackTooShallow}
 use Rattle.machine.specs.Instruction.{Row, table, Decoded, known, unknown, decode, grownBy, shrunkBy}
+use Rattle.machine.specs.Instruction as I
 use Rattle.machine.specs.Machine.{Machine, JumpTop, empty, entry, jumpTop, top, st, publicLeft, secretLeft, digestsLeft}
 use Rattle.machine.specs.Effect.{Effect, Decision, acts, refuses, drops}
 use Rattle.machine.specs.Stack.{pushOf, popOf, divineOf, pickOf, placeOf, dupOf, swapOf}
@@ -21,14 +22,14 @@ use Rattle.machine.specs.Bitwise.{splitOf, ltOf, andOf, xorOf, log2Floor
 use Rattle.machine.specs.InputOutput.{readIoOf, writeIoOf}
 use Rattle.machine.specs.ManyInOne.{merkleStepOf, merkleStepMemOf, xxDotStepOf, xbDotStepOf}
 use Rattle.machine.specs.Decide.{opcodeOf, argumentOf, effectOf, decideIn, decideOf}
-use Rattle.machine.specs.Apply.{took, lost}
+use Rattle.machine.specs.Apply.{took, lost, dropped}
 use Rattle.machine.specs.PlaceA.{machineA}
 use Rattle.machine.specs.Step.{outcomeBy, runOf}
 use Rattle.machine.specs.Sound.{Sound}
 use Rattle.machine.proofs.Rows.{Each, gathered, each-decode}
 use Rattle.machine.proofs.PlaceA.{machine-accepted}
 use Rattle.machine.proofs.Facts.{facts}
-use Rattle.machine.proofs.Step.{step-sound}
+use Rattle.machine.proofs.Step.{step-sound, step-lost}
 use Rattle.machine.proofs.Run.{lost-sound, run-sound}
 
 -- P where a decision drops
@@ -55,9 +56,9 @@ module _ {P : Type 0} where
   of-recurse empty = refusing
   of-recurse (entry o d) = acting
 
--- a row's instruction drops only where it takes one word more than it puts on
+-- a row's instruction drops only if it is skiz, which takes one word more than it puts on
 abbrev RowDrops : Machine → Row → Type 0
-RowDrops m r = (n : ℕ) → Drops (1 + grownBy (r .change) n ≤ shrunkBy (r .change) n) (effectOf (r .instruction) n m)
+RowDrops m r = (n : ℕ) → Drops ((r .instruction ≡ I.skiz) × (1 + grownBy (r .change) n ≤ shrunkBy (r .change) n)) (effectOf (r .instruction) n m)
 
 rows : (m : Machine) → Each (RowDrops m) table
 unfolding table effectOf pushOf popOf divineOf pickOf placeOf dupOf swapOf haltOf nopOf skizOf callOf recurseOrReturnOf assertOf readMemOf writeMemOf hashOf assertFrom assertVectorOf spongeInitOf spongeAbsorbOf spongeAbsorbMemOf spongeSqueezeOf addOf addiOf mulOf invertOf eqOf xxAddOf xxMulOf xInvertOf xbMulOf splitOf ltOf andOf xorOf log2FloorOf powOf divModOf popCountOf readIoOf writeIoOf merkleStepOf merkleStepMemOf xxDotStepOf xbDotStepOf
@@ -72,7 +73,7 @@ rows m =
     (λ n. acting)
     (λ n. acting)
     (λ n. acting)
-    (λ n. either (eqb (st (top m) 0) 0) (either (ltb (m .state .pointer + 1) (length (m .code .opcodes))) acting (dropping (omega arith))) acting)
+    (λ n. either (eqb (st (top m) 0) 0) (either (ltb (m .state .pointer + 1) (length (m .code .opcodes))) acting (dropping (refl, omega arith))) acting)
     (λ n. acting)
     (λ n. of-return (jumpTop m))
     (λ n. of-recurse (jumpTop m))
@@ -115,23 +116,38 @@ drops-map f acting = acting
 drops-map f refusing = refusing
 drops-map f (dropping h) = dropping (f h)
 
+-- what is known where a word is dropped
+pub record AtSkiz (m : Machine) : Type 0 where
+  pub row : Row
+  pub decodes : decode (opcodeOf m) ≡ known row
+  pub is-skiz : row .instruction ≡ I.skiz
+  pub deep : 17 ≤ m .state .depth
+
 -- at the depths that 12 lets pass
-deep-enough : (d g s : ℕ) (t : Bool) → ltb (d + g) (16 + s) ≡ t → (r : Refusal) (x : Decision) → Drops (1 + g ≤ s) x → Drops (17 ≤ d) (cond t (refuses r) x)
+deep-enough : {S : Type 0} (d g s : ℕ) (t : Bool) → ltb (d + g) (16 + s) ≡ t → (r : Refusal) (x : Decision) → Drops (S × (1 + g ≤ s)) x → Drops (S × (17 ≤ d)) (cond t (refuses r) x)
 deep-enough d g s true e r x h = refusing
-deep-enough d g s false e r x h = drops-map (λ k. omega (arith, ltb-false (d + g) (16 + s) e)) h
+deep-enough d g s false e r x h = drops-map (λ k. (k .0, omega (arith, ltb-false (d + g) (16 + s) e, k .1))) h
 
-deep-in : (m : Machine) (d : Decoded) → decode (opcodeOf m) ≡ d → Drops (17 ≤ m .state .depth) (decideIn d (argumentOf m) m)
-deep-in m unknown e = refusing
-deep-in m (known r) e =
-    deep-enough (m .state .depth) (grownBy (r .change) (argumentOf m)) (shrunkBy (r .change) (argumentOf m)) (ltb (m .state .depth + grownBy (r .change) (argumentOf m)) (16 + shrunkBy (r .change) (argumentOf m))) refl opStackTooShallow (effectOf (r .instruction) (argumentOf m) m)
-    (each-decode (RowDrops m) (opcodeOf m) r (rows m) e (argumentOf m))
+skiz-in : (m : Machine) (d : Decoded) → decode (opcodeOf m) ≡ d → Drops (AtSkiz m) (decideIn d (argumentOf m) m)
+skiz-in m unknown e = refusing
+skiz-in m (known r) e =
+    drops-map (λ k. record { row = r; decodes = e; is-skiz = k .0; deep = k .1 })
+    (deep-enough (m .state .depth) (grownBy (r .change) (argumentOf m)) (shrunkBy (r .change) (argumentOf m)) (ltb (m .state .depth + grownBy (r .change) (argumentOf m)) (16 + shrunkBy (r .change) (argumentOf m))) refl opStackTooShallow (effectOf (r .instruction) (argumentOf m) m)
+    (each-decode (RowDrops m) (opcodeOf m) r (rows m) e (argumentOf m)))
 
-deep : (m : Machine) → Drops (17 ≤ m .state .depth) (decideOf m)
+only-skiz : (m : Machine) → Drops (AtSkiz m) (decideOf m)
 unfolding decideOf
-deep m = either (m .state .halted) refusing (either (ltb (m .state .pointer) (length (m .code .opcodes))) (deep-in m (decode (opcodeOf m)) refl) refusing)
+only-skiz m = either (m .state .halted) refusing (either (ltb (m .state .pointer) (length (m .code .opcodes))) (skiz-in m (decode (opcodeOf m)) refl) refusing)
+
+drops-skiz : (m : Machine) (r : Refusal) → decideOf m ≡ drops r → AtSkiz m
+drops-skiz m r e = dropped-by (subst (Drops (AtSkiz m)) e (only-skiz m))
 
 pub drops-deep : (m : Machine) (r : Refusal) → decideOf m ≡ drops r → 17 ≤ m .state .depth
-drops-deep m r e = dropped-by (subst (Drops (17 ≤ m .state .depth)) e (deep m))
+drops-deep m r e = drops-skiz m r e .deep
+
+-- a refused step changes nothing, but that skiz drops its word
+pub lost-at-skiz : (m : Machine) (r : Refusal) (x : Machine) → outcomeBy decideOf m ≡ lost r x → AtSkiz m × (dropped m ≡ x)
+lost-at-skiz m r x e = let k = step-lost decideOf m r x e in (drops-skiz m r (k .0), k .1)
 
 -- ---- what a step and a run leave passes place A
 

@@ -29,6 +29,7 @@ pub mod StepBytes
 pub mod ProvedTable
 pub mod Step
 pub mod Run
+pub mod Refused
 pub mod Drops
 pub mod Cancels
 pub mod Bits

@@ -11,3 +11,4 @@ pub mod Job
 pub mod Triton
 pub mod LastWrite
 pub mod Decide
+pub mod Refused

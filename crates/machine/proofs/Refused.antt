@@ -1,0 +1,36 @@
+-- What place A's number makes of each call: where it is 0 open opens, and elsewhere each call gives that number and changes nothing. Assumes nothing.
+use mathlib.Core.Path.{_≡_, refl}
+use mathlib.Core.List.{List}
+use Prim.Native.Nat.{ℕ}
+use borrow.Author.Tests.{eq-eqb, ne-eqb}
+use lib.ListN.{replicate}
+use lib.Dec.{eqb}
+use Rattle.machine.specs.Refusal.{plainly}
+use Rattle.machine.specs.Machine.{Code, Memory, Machine}
+use Rattle.machine.specs.Effect.{Decision}
+use Rattle.machine.specs.Apply.{took, kept}
+use Rattle.machine.specs.PlaceA.{openA, machineA, stepA}
+use Rattle.machine.specs.Open.{opened, openOf}
+use Rattle.machine.specs.Step.{stepBy, runBy, ran, refused}
+use Rattle.machine.specs.HelperVariables.{helperVariablesOf}
+
+pub open-accepts : (g : List ℕ) (c : Code) (m : Memory) (n : ℕ) → openA g c m n ≡ 0 → openOf g c m n ≡ took (opened g c m n)
+unfolding openOf
+open-accepts g c m n h = rw (eq-eqb (openA g c m n) 0 h)
+
+pub open-refuses : (g : List ℕ) (c : Code) (m : Memory) (n : ℕ) → (openA g c m n ≡ 0 → ⊥) → openOf g c m n ≡ kept (plainly (openA g c m n))
+unfolding openOf
+open-refuses g c m n h = rw (ne-eqb (openA g c m n) 0 h)
+
+pub helpers-refused : (m : Machine) → (machineA m ≡ 0 → ⊥) → helperVariablesOf m ≡ (record { number = machineA m; helpers = replicate 6 0 })
+unfolding helperVariablesOf
+helpers-refused m h = rw (ne-eqb (machineA m) 0 h)
+
+module _ (decide : Machine → Decision) where
+  pub step-refuses : (m : Machine) (b : List ℕ) → (stepA m b ≡ 0 → ⊥) → stepBy decide m b ≡ (record { outcome = kept (plainly (stepA m b)); bytes = 0; buffer = b })
+  unfolding stepBy
+  step-refuses m b h = rw (ne-eqb (stepA m b) 0 h)
+
+  pub run-refuses : (n : ℕ) (m : Machine) → (machineA m ≡ 0 → ⊥) → runBy decide n m ≡ ran 0 (refused (plainly (machineA m))) m
+  unfolding runBy
+  run-refuses n m h = rw (ne-eqb (machineA m) 0 h)
