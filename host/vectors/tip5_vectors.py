@@ -2,8 +2,8 @@
 """tip5_vectors.py [FILE]: Tip5 on plain integers, written apart from the proved crate, and what the program tip5_vectors
 must write, to FILE or to standard output.
 
-The matrix's column is the SHA-256 digest of "Tip5". The round constants are listed: they come from BLAKE3, which Python's
-library does not have. Every figure that is published is held to its published value here."""
+The matrix's column is derived from the SHA-256 digest of "Tip5", the round constants from the BLAKE3 digests of "Tip5" and their
+index. Every figure that is published is held to its published value here."""
 import hashlib
 import struct
 import sys
@@ -13,28 +13,37 @@ R = 2**64
 R_INVERSE = pow(R, P - 2, P)
 LOOKUP = [((i + 1) ** 3 - 1) % 257 for i in range(256)]
 COLUMN = struct.unpack("<16H", hashlib.sha256(b"Tip5").digest())
-K = [
-    13630775303355457758, 16896927574093233874, 10379449653650130495, 1965408364413093495,
-    15232538947090185111, 15892634398091747074, 3989134140024871768, 2851411912127730865,
-    8709136439293758776, 3694858669662939734, 12692440244315327141, 10722316166358076749,
-    12745429320441639448, 17932424223723990421, 7558102534867937463, 15551047435855531404,
-    17532528648579384106, 5216785850422679555, 15418071332095031847, 11921929762955146258,
-    9738718993677019874, 3464580399432997147, 13408434769117164050, 264428218649616431,
-    4436247869008081381, 4063129435850804221, 2865073155741120117, 5749834437609765994,
-    6804196764189408435, 17060469201292988508, 9475383556737206708, 12876344085611465020,
-    13835756199368269249, 1648753455944344172, 9836124473569258483, 12867641597107932229,
-    11254152636692960595, 16550832737139861108, 11861573970480733262, 1256660473588673495,
-    13879506000676455136, 10564103842682358721, 16142842524796397521, 3287098591948630584,
-    685911471061284805, 5285298776918878023, 18310953571768047354, 3142266350630002035,
-    549990724933663297, 4901984846118077401, 11458643033696775769, 8706785264119212710,
-    12521758138015724072, 11877914062416978196, 11333318251134523752, 3933899631278608623,
-    16635128972021157924, 10291337173108950450, 4142107155024199350, 16973934533787743537,
-    11068111539125175221, 17546769694830203606, 5315217744825068993, 4609594252909613081,
-    3350107164315270407, 17715942834299349177, 9600609149219873996, 12894357635820003949,
-    4597649658040514631, 7735563950920491847, 1663379455870887181, 13889298103638829706,
-    7375530351220884434, 3502022433285269151, 9231805330431056952, 9252272755288523725,
-    10014268662326746219, 15565031632950843234, 1209725273521819323, 6024642864597845108,
-]
+
+BLAKE3_IV = (0x6A09E667, 0xBB67AE85, 0x3C6EF372, 0xA54FF53A, 0x510E527F, 0x9B05688C, 0x1F83D9AB, 0x5BE0CD19)
+BLAKE3_ORDER = (2, 6, 3, 10, 7, 0, 4, 13, 1, 11, 12, 5, 9, 14, 15, 8)
+BLAKE3_MIXED = (
+    (0, 4, 8, 12), (1, 5, 9, 13), (2, 6, 10, 14), (3, 7, 11, 15),
+    (0, 5, 10, 15), (1, 6, 11, 12), (2, 7, 8, 13), (3, 4, 9, 14),
+)
+
+
+def turned(x, n):
+    return (x >> n | x << (32 - n)) & 0xFFFFFFFF
+
+
+def blake3(text):
+    """The digest of at most 64 bytes: one block, which is start and end of its chunk and the root."""
+    m = struct.unpack("<16I", text.ljust(64, b"\0"))
+    v = list(BLAKE3_IV + BLAKE3_IV[:4]) + [0, 0, len(text), 1 | 2 | 8]
+    for _ in range(7):
+        for n, (a, b, c, d) in enumerate(BLAKE3_MIXED):
+            for x, by_d, by_b in ((m[2 * n], 16, 12), (m[2 * n + 1], 8, 7)):
+                v[a] = (v[a] + v[b] + x) & 0xFFFFFFFF
+                v[d] = turned(v[d] ^ v[a], by_d)
+                v[c] = (v[c] + v[d]) & 0xFFFFFFFF
+                v[b] = turned(v[b] ^ v[c], by_b)
+        m = [m[i] for i in BLAKE3_ORDER]
+    return struct.pack("<8I", *(v[i] ^ v[i + 8] for i in range(8)))
+
+
+# the digest of nothing, as published
+assert blake3(b"").hex() == "af1349b9f5f9a1a6a0404dea36dcc9499bcb25c9adc112b7cc9a93cae41f3262"
+K = [int.from_bytes(blake3(b"Tip5" + bytes([n]))[:16], "little") * R_INVERSE % P for n in range(80)]
 
 
 def split_and_lookup(x):
