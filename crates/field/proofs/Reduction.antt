@@ -98,3 +98,6 @@ borrowed hi lo t h e = add-back p (hi / 2 ^ 32) lo t (omega arith) e
 
 pub over : (q m t : ℕ) → q - m ≤ t → q ≤ t + m
 over q m t g = omega arith
+
+pub under : (q m t : ℕ) → t < q - m → t + m < q
+under q m t g = omega arith

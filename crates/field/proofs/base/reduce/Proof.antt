@@ -2,7 +2,7 @@
 use mathlib.Core.Logic.{⊎-elim}
 use native.Mathlib.Omega.{arith}
 use Rattle.field.specs.Base.{p}
-use Rattle.field.proofs.Reduction.{sum-is, difference-is, borrowed, over}
+use Rattle.field.proofs.Reduction.{sum-is, difference-is, borrowed, over, under}
 use Rattle.field.proofs.base.reduce.Statement.{statement}
 use Rattle.field.proofs.base.reduce.Tie as tie
 
@@ -24,9 +24,10 @@ add-result c = omega arith
 returns : tie.Need-returns
 returns c =
     let a = c .before .before .before .args in
+    let g = under p _ _ (c .before .if2 .taken) in
     ⊎-elim
-    (λ w. sum-is (a .hi) (a .lo) _ 0 (omega arith) (omega arith))
-    (λ w. sum-is (a .hi) (a .lo) _ 1 (borrowed _ _ _ (c .before .before .before .fits .hi .fits) (w .1)) (omega arith))
+    (λ w. sum-is (a .hi) (a .lo) _ 0 (omega arith) g)
+    (λ w. sum-is (a .hi) (a .lo) _ 1 (borrowed _ _ _ (c .before .before .before .fits .hi .fits) (w .1)) g)
     (c .before .before .if1 .came)
 
 returns-2 : tie.Need-returns-2
