@@ -22,7 +22,8 @@ use Rattle.machine.specs.Arithmetic.{xst}
 use Rattle.machine.specs.ManyInOne.{siblings, merkleTrace, parent, merkleStepped, merkleStepOf, merkleSteppedMem, merkleStepMemOf, xheld, readAt, xxDotStepOf, xbDotStepOf}
 use Rattle.machine.specs.Sound.{Sound, Honest, HonestJump}
 use Rattle.machine.proofs.Words.{words-getD, words-take, words-drop, words-append}
-use Rattle.machine.proofs.Seen.{sees, from-top-length, from-top-words, reversed-length, reversed-words, held-word, words-up-length, words-up-words, reads-up-honest}
+use Rattle.machine.proofs.RamLaws.{held-word}
+use Rattle.machine.proofs.Seen.{sees, from-top-length, from-top-words, reversed-length, reversed-words, words-up-length, words-up-words, reads-up-honest}
 use Rattle.machine.proofs.Acts.{Acts, acting, acts-unless, acts-u32}
 use Rattle.machine.proofs.Does.{Does, onward-word, records}
 use Rattle.machine.proofs.FactsArithmetic.{extension-words}
@@ -112,7 +113,7 @@ module _ (m : Machine) (s : Sound m) (here : m .state .pointer < length (m .code
   -- ---- dot products
 
   reads-at : (a : ℕ) → a < p → {cs : _} → Honest (ram m) cs → Honest (ram m) (readAt (ram m) a ∷ cs)
-  reads-at a h k = Honest.reads h (held-word (ram m) a (s .cells)) refl k
+  reads-at a h k = Honest.reads h (held-word (ram m) a (s .cells .values)) refl k
 
   pub xx-dot-step-does : Acts (Does m 0 0 150) (xxDotStepOf (ram m) (top m))
   unfolding xxDotStepOf

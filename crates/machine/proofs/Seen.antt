@@ -1,40 +1,28 @@
 -- What an instruction sees of a sound machine are words: the top sixteen, the words held in RAM, and what it gathers of both. Assumes nothing.
 use mathlib.Core.Path.{_≡_, refl}
-use mathlib.Core.Bool.{Bool, true, false}
 use mathlib.Core.List.{List, _++_}
-use Prim.Native.Nat.{ℕ, zero, suc, _+_, _-_, _≤_, _<_}
-use native.Mathlib.Omega.{arith}
-use borrow.Author.Tests.{ltb-true}
-use lib.ListN.{length, drop, length-drop}
-use lib.Seq.{length-take-le, getD-take}
-use lib.Dec.{ltb, lit<}
+use Prim.Native.Nat.{ℕ, zero, suc, _+_, _-_, _<_}
+use lib.ListN.{length}
 use Rattle.field.specs.Base.{p, addP, subP}
 use Rattle.field.proofs.Ring.{below}
-use Rattle.machine.specs.Choice.{cond}
 use Rattle.machine.specs.Words.{Words, none, more}
-use Rattle.machine.specs.Ram.{Cells, find, at, absent, heldAt, held, placeFrom, stored}
-use Rattle.machine.specs.Machine.{Machine, topOf, st, top}
+use Rattle.machine.specs.Ram.{Cells, stored}
+use Rattle.machine.specs.Machine.{Machine, st, top}
 use Rattle.machine.specs.Effect.{Call}
 use Rattle.machine.specs.Memory.{wordsDown, wordsUp, readsDown, readsUp, writesUp}
 use Rattle.machine.specs.Hashing.{fromTop, reversed}
 use Rattle.machine.specs.Sound.{SoundCells, Sound, Honest}
-use Rattle.machine.proofs.Words.{words-getD, words-take, words-drop}
+use Rattle.machine.proofs.Words.{words-getD}
+use Rattle.machine.proofs.RamLaws.{held-word}
+use Rattle.machine.proofs.OpStack.{top-length, top-words}
 
 -- ---- op stack
-
-pub top-length : (s : List ℕ) (d : ℕ) → 16 ≤ d → d ≤ length s → length (topOf s d) ≡ 16
-unfolding topOf
-top-length s d h l = length-take-le 16 (drop (d - 16) s) (simp length-drop (omega arith))
-
-pub top-words : (s : List ℕ) (d : ℕ) → Words s → Words (topOf s d)
-unfolding topOf
-top-words s d b = words-take 16 (words-drop (d - 16) b)
 
 pub sees-sixteen : (m : Machine) → Sound m → length (top m) ≡ 16
 sees-sixteen m s = top-length (m .memory .opStack) (m .state .depth) (s .deep) (s .opStack .used)
 
 pub sees : (m : Machine) → Sound m → Words (top m)
-sees m s = top-words (m .memory .opStack) (m .state .depth) (s .opStack .words)
+sees m s = top-words (m .state .depth) (s .opStack .words)
 
 pub from-top-length : (w : List ℕ) (i n : ℕ) → length (fromTop w i n) ≡ n
 unfolding fromTop
@@ -58,37 +46,26 @@ reversed-words (suc n) b = more (words-getD n b) (reversed-words n b)
 
 -- ---- RAM
 
-pub held-word : (c : Cells) (a : ℕ) → SoundCells c → held c a < p
-unfolding held find
-held-word c a s = go (ltb (placeFrom (c .addresses) a (c .count) 0) (c .count)) refl
-  where
-    go : (t : Bool) → ltb (placeFrom (c .addresses) a (c .count) 0) (c .count) ≡ t →
-        heldAt c (cond t (at (placeFrom (c .addresses) a (c .count) 0)) (absent (c .count))) < p
-    go true e =
-        rw (← getD-take (c .count) (c .values) (placeFrom (c .addresses) a (c .count) 0) 0 (ltb-true _ (c .count) e))
-        (words-getD (placeFrom (c .addresses) a (c .count) 0) (s .values))
-    go false e = lit< tt
-
 module _ (c : Cells) (s : SoundCells c) where
   pub words-up-words : (a n : ℕ) → Words (wordsUp c a n)
   unfolding wordsUp
   words-up-words a zero = none
-  words-up-words a (suc n) = more (held-word c a s) (words-up-words (addP a 1) n)
+  words-up-words a (suc n) = more (held-word c a (s .values)) (words-up-words (addP a 1) n)
 
   pub words-down-words : (a n : ℕ) → Words (wordsDown c a n)
   unfolding wordsDown
   words-down-words a zero = none
-  words-down-words a (suc n) = more (held-word c a s) (words-down-words (subP a 1) n)
+  words-down-words a (suc n) = more (held-word c a (s .values)) (words-down-words (subP a 1) n)
 
   pub reads-up-honest : {cs : List Call} (a n : ℕ) → a < p → Honest c cs → Honest c (readsUp c a n ++ cs)
   unfolding readsUp
   reads-up-honest a zero h k = k
-  reads-up-honest a (suc n) h k = Honest.reads h (held-word c a s) refl (reads-up-honest (addP a 1) n (below _) k)
+  reads-up-honest a (suc n) h k = Honest.reads h (held-word c a (s .values)) refl (reads-up-honest (addP a 1) n (below _) k)
 
   pub reads-down-honest : (a n : ℕ) → a < p → Honest c (readsDown c a n)
   unfolding readsDown
   reads-down-honest a zero h = Honest.none
-  reads-down-honest a (suc n) h = Honest.reads h (held-word c a s) refl (reads-down-honest (subP a 1) n (below _))
+  reads-down-honest a (suc n) h = Honest.reads h (held-word c a (s .values)) refl (reads-down-honest (subP a 1) n (below _))
 
 pub words-up-length : (c : Cells) (a n : ℕ) → length (wordsUp c a n) ≡ n
 unfolding wordsUp

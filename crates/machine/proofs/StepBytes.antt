@@ -2,7 +2,7 @@
 use mathlib.Core.Path.{_≡_, refl, sym, ap, _∙_}
 use mathlib.Core.Bool.{Bool, true, false}
 use mathlib.Core.List.{List, [], _∷_, _++_}
-use Prim.Native.Nat.{ℕ, zero, suc, _+_, _-_, _*_, _/_, _≤_}
+use Prim.Native.Nat.{ℕ, zero, suc, _+_, _-_, _*_, _≤_}
 use native.Mathlib.Nat.{mul-le-mul-right}
 use native.Mathlib.Omega.{arith}
 use borrow.Author.Tests.{leb-true, eqb-true}
@@ -13,34 +13,17 @@ use Rattle.machine.specs.Ram.{Cells}
 use Rattle.machine.specs.Instruction.{Row, Argument, Change, grows, shrinks, grows-by-argument, shrinks-by-argument, table, known, decodeIn, decode, grownBy, shrunkBy, bytesIn, argumentFault}
 use Rattle.machine.specs.Machine.{Machine}
 use Rattle.machine.specs.Effect.{Call, Effect, acts}
-use Rattle.machine.specs.Bytes.{bytesOf}
 use Rattle.machine.specs.Decide.{opcodeOf, argumentOf, decideOf}
 use Rattle.machine.specs.Apply.{depthAfter, stackAfter}
-use Rattle.machine.specs.Records.{Record, other, stack, ram, recordBytes, logBytes, wordsBytes, callRecord, callRecords, growing, shrinking, stackRecords, recordsOf}
+use Rattle.machine.specs.Records.{Record, other, stack, ram, recordBytes, logBytes, callRecord, callRecords, growing, shrinking, stackRecords, recordsOf}
 use Rattle.machine.specs.Sound.{Sound, Honest}
+use Rattle.machine.proofs.Bytes.{bytes-length}
+use Rattle.machine.proofs.Records.{words-bytes-length, stack-length, ram-length}
 use Rattle.machine.proofs.Rows.{nothing-allowed, words-allowed, place-allowed}
 use Rattle.machine.proofs.Does.{callSizes}
 use Rattle.machine.proofs.Facts.{Done, done}
 
 -- ---- records
-
-bytes-length : (n v : ℕ) → length (bytesOf n v) ≡ n
-unfolding bytesOf
-bytes-length zero v = refl
-bytes-length (suc n) v = ap suc (bytes-length n (v / 256))
-
-words-bytes-length : (s : List ℕ) → length (wordsBytes s) ≡ 8 * length s
-unfolding wordsBytes
-words-bytes-length [] = refl
-words-bytes-length (x ∷ s) = simp (length-append, bytes-length, words-bytes-length s) (omega arith)
-
-stack-length : (t q d v : ℕ) → length (recordBytes (stack t q d v)) ≡ 25
-unfolding recordBytes
-stack-length t q d v = simp (length-append, bytes-length)
-
-ram-length : (t a v d : ℕ) → length (recordBytes (ram t a v d)) ≡ 25
-unfolding recordBytes
-ram-length t a v d = simp (length-append, bytes-length)
 
 other-length : (k : ℕ) (b : List ℕ) → length (recordBytes (other k b)) ≡ 4 + length b
 unfolding recordBytes

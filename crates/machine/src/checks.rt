@@ -36,7 +36,7 @@ pub fn differ(a: usize, b: usize, n: u64) -> u64
 }
 
 // The lesser of two.
-fn least(a: usize, b: usize) -> usize
+pub fn least(a: usize, b: usize) -> usize
     ensures { λ r. ⌜ r ≡ min a b ⌝ }
 {
     if a < b { a } else { b }

@@ -14,7 +14,7 @@ use Rattle.machine.specs.Machine.{Code, code, Machine}
 use Rattle.machine.specs.Effect.{Effect}
 use Rattle.machine.specs.Apply.{limitsOf, performedAt}
 use Rattle.vm.specs.declared.answer.Answer.the-variants.{Took, Refused}
-use Rattle.vm.specs.StepView.{Moves, settledAt, turned}
+use Rattle.vm.specs.StepView.{Gives, settledAt, turned}
 
 -- a program with no slot
 abbrev pub noCode : Code
@@ -63,10 +63,10 @@ last-limit n h l a b c d = omega arith
 -- ---- the answers
 
 module _ (m : Machine) (e : Effect) (q : ℕ) (s : Sponge) where
-  pub settled-took : {x : Machine} → limitsOf m e ≡ 0 → x ≡ performedAt m e q s → Moves m (settledAt m e q s) Took x
+  pub settled-took : {x : Machine} → limitsOf m e ≡ 0 → x ≡ performedAt m e q s → Gives m (settledAt m e q s) Took x
   settled-took h l = rw (eq-eqb (limitsOf m e) 0 h) (record { answer = refl; left = l })
 
-  pub settled-kept : {n : ℕ} {r : InstructionError} → n ≡ limitsOf m e → (n ≡ 0 → ⊥) → refusalOf r ≡ plainly n → Moves m (settledAt m e q s) (Refused r) m
+  pub settled-kept : {n : ℕ} {r : InstructionError} → n ≡ limitsOf m e → (n ≡ 0 → ⊥) → refusalOf r ≡ plainly n → Gives m (settledAt m e q s) (Refused r) m
   settled-kept {n} h z l =
       let k : limitsOf m e ≡ 0 → ⊥ = λ y. z (h ∙ y) in
       rw (ne-eqb (limitsOf m e) 0 k) (record { answer = ap turned (l ∙ ap plainly h); left = refl })

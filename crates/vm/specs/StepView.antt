@@ -38,7 +38,7 @@ leftBy m (kept r) = m
 leftBy m (lost r x) = x
 
 -- the answer a and the machine x are those of the outcome o of a step from m
-pub record Moves (m : Machine) (o : Outcome) (a : Answer) (x : Machine) : Type 0 where
+pub record Gives (m : Machine) (o : Outcome) (a : Answer) (x : Machine) : Type 0 where
   pub answer : answerIn a ≡ answeredBy o
   pub left : x ≡ leftBy m o
 
@@ -53,4 +53,4 @@ pub record Settling (s : VMState) (e : Arrays) (m : Memory) : Type 0 where
 
 -- whatever the program and the inputs are
 pub record Settled (s : VMState) (e : Arrays) (q : ℕ) (sponge : Sponge) (m : Memory) (r : Moved) (n : Memory) : Type 0 where
-  pub is : (c : Code) → Moves (machine s c m) (settledAt (machine s c m) (effectOf e) q sponge) (r .answer) (machine (r .state) c n)
+  pub is : (c : Code) → Gives (machine s c m) (settledAt (machine s c m) (effectOf e) q sponge) (r .answer) (machine (r .state) c n)

@@ -1,36 +1,18 @@
 // Place D: whether there is room for an effect, as a number from 30 to 34, or 0. Numbers are chosen and not branched on.
 ghost use mathlib.Core.Path.{_≡_};
-ghost use Prim.Native.Nat.{_+_, _≤_, min};
+ghost use Prim.Native.Nat.{_+_, _≤_};
 ghost use lib.ListN.{length};
-ghost use Rattle.machine.specs.Choice.{firstOf, aboveOf};
+ghost use Rattle.machine.specs.Choice.{aboveOf};
 ghost use Rattle.machine.specs.Machine.{memory};
 ghost use Rattle.vm.specs.PerformView.{jumpsBy, amongOf, newOf, freshOf, Fit, Limited};
+use machine::checks::above;
+use machine::checks::first;
+use machine::checks::least;
 use machine::effect::Effect;
 use machine::op_stack::over;
 use machine::ram;
 use machine::ram::Found;
 use machine::vm::VMState;
-
-// The first number that is not 0.
-fn first(a: u64, b: u64) -> u64
-    ensures { λ r. ⌜ r ≡ firstOf a b ⌝ }
-{
-    if a == 0 { b } else { a }
-}
-
-// n where a is above b.
-fn above(a: usize, b: usize, n: u64) -> u64
-    ensures { λ r. ⌜ r ≡ aboveOf a b n ⌝ }
-{
-    if b < a { n } else { 0 }
-}
-
-// The lesser of two: an array has no more words than it is long, whatever its count.
-pub fn least(a: usize, b: usize) -> usize
-    ensures { λ r. ⌜ r ≡ min a b ⌝ }
-{
-    if a < b { a } else { b }
-}
 
 // How many entries the jump stack has after an effect.
 pub fn jumps_after(n: usize, calls: bool, returns: bool) -> usize
@@ -103,7 +85,7 @@ fn ram_limit(addresses: &[u64], count: usize, written: [u64; 10], from: usize, n
     above(count + more, addresses.len(), 32)
 }
 
-// Every number is found, and the first that applies is given.
+// Every number is found, and the first that applies is given. An array has no more words than it is long, whatever its count.
 pub fn limits(
     state: VMState,
     effect: Effect,

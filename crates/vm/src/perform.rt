@@ -9,7 +9,7 @@ ghost use Rattle.machine.specs.EffectView.{writesFrom};
 ghost use Rattle.machine.specs.Apply.{touched};
 ghost use Rattle.vm.specs.PerformView.{jumpWords, Writes, Moves, movedTo, Ready, Performed, Dropped};
 use crate::limits::jumps_after;
-use crate::limits::least;
+use machine::checks::least;
 use machine::effect::Effect;
 use machine::op_stack::apply;
 use machine::op_stack::over;

@@ -1,7 +1,10 @@
 -- `machine::memory::read_mem` meets its contract. Assumes nothing.
 use borrow.Author.Needs.{needs}
-use mathlib.Core.List.{append-nil}
+use mathlib.Core.Path.{_≡_}
+use mathlib.Core.List.{List, [], _++_, append-nil}
+use Prim.Native.Nat.{ℕ}
 use native.Mathlib.Omega.{arith}
+use Rattle.machine.specs.Effect.{Call, acts, recording}
 use Rattle.machine.specs.EffectView.{accessesFrom}
 use Rattle.machine.specs.Memory.{readMemOf}
 use Rattle.machine.proofs.MemoryView.{words-end}
@@ -26,6 +29,10 @@ add-puts-ram c = search needs
 puts-ram-requires : tie.Need-puts-ram-requires
 puts-ram-requires c κs = search needs
 
+-- behind the reads there is no write
+reads-only : (cs : List Call) (ws : List ℕ) → acts (recording (cs ++ []) 1 ws) ≡ acts (recording cs 1 ws)
+reads-only cs ws = rw (append-nil cs)
+
 returns : tie.Need-returns
 unfolding readMemOf accessesFrom
 returns c =
@@ -35,11 +42,11 @@ returns c =
     let f = k .before .before .before .pre .1 in
     rw (
       c .puts-ram .ensures,
-      append-nil,
       k .read-down .ensures .reads,
       words-end (k .read-down .result .words) (k .read-down .result .next) (a .n) (omega arith) (k .read-down .ensures .words),
       k .read-down .ensures .next,
     )
+    (reads-only _ _)
 
 pub read-mem-spec : {M : Type 1} → statement M
 read-mem-spec =
