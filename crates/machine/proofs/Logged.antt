@@ -15,7 +15,7 @@ use Rattle.machine.specs.Apply.{depthAfter, stackAfter}
 use Rattle.machine.specs.Machine.{Machine}
 use Rattle.machine.specs.EffectView.{u32sOf, accessesFrom, readsFrom, writesFrom, callsOf}
 use Rattle.machine.specs.Records.{Record, other, stack, ram, lengthOf, recordBytes, logBytes, wordsBytes, callRecord, callRecords, growing, shrinking, stackRecords, recordsOf}
-use Rattle.machine.specs.Logged.{logged, Wrote, u32Record, u32Records, accesses, callBytes, stackBytes, Countable}
+use Rattle.machine.specs.Logged.{logged, Wrote, u32Record, u32Records, accesses, callBytes, stackBytes}
 use Rattle.machine.proofs.OpStack.{applied-below}
 use Rattle.machine.proofs.Records.{words-bytes-length, log-append}
 
@@ -191,9 +191,11 @@ pub u32s-one : (n : ℕ) (a b : U32Call) → n ≡ 1 → u32Record a ∷ [] ≡ 
 unfolding u32Records
 u32s-one n a b e = rw e
 
-pub u32s-two : (n : ℕ) (a b : U32Call) → n ≡ 2 → (u32Record a ∷ []) ++ (u32Record b ∷ []) ≡ u32Records n a b
+pub u32s-two : (n : ℕ) (a b : U32Call) → 2 ≤ n → (u32Record a ∷ []) ++ (u32Record b ∷ []) ≡ u32Records n a b
 unfolding u32Records
-u32s-two n a b e = rw e
+u32s-two zero a b h = absurd (omega arith)
+u32s-two (suc zero) a b h = absurd (omega arith)
+u32s-two (suc (suc n)) a b h = refl
 
 -- ---- an effect's calls
 
@@ -240,6 +242,11 @@ calls-are t e =
     sym (calls-append t (u32sOf (e .u32s) (e .«u32_0») (e .«u32_1») ++ readsFrom (e .addresses) (e .values) 0 (e .reads)) _
     ∙ rw (calls-append t (u32sOf (e .u32s) (e .«u32_0») (e .«u32_1»)) (readsFrom (e .addresses) (e .values) 0 (e .reads)), u32s-are, reads-are, writes-are))
 
+-- a reset first
+pub reset-first : (t : ℕ) (cs : List Call) (rs : List Record) → (other 1 [] ∷ []) ++ callRecords t cs ++ rs ≡ callRecords t (reset ∷ cs) ++ rs
+unfolding callRecords callRecord
+reset-first t cs rs = refl
+
 -- a Tip5 record first, and behind the calls
 pub tip5-first : (t o : ℕ) (trace : List ℕ) (cs : List Call) (rs : List Record) →
     (other 2 (bytesOf 2 o ++ wordsBytes trace) ∷ []) ++ callRecords t cs ++ rs ≡ callRecords t (tip5 o trace ∷ cs) ++ rs
@@ -274,11 +281,6 @@ stack-same t before after d d2 k e h l m = ap (λ (rs : List Record). growing t 
     go : (n : ℕ) → n ≤ d - 16 → shrinking t after d n ≡ shrinking t before d n
     go n j = sym (shrinking-same t before after d n k e (omega arith) m)
 
--- sponge_init leaves the depth as it is
-pub reset-records : (t : ℕ) (s s2 : List ℕ) (d : ℕ) → callRecords t (reset ∷ []) ++ stackRecords t s s2 d d ≡ other 1 [] ∷ []
-unfolding callRecords callRecord stackRecords growing shrinking
-reset-records t s s2 d = let e : d - d ≡ 0 = omega arith in rw e
-
 -- the records of a step, by the stack after it alone
 pub records-after : (m : Machine) (e : Effect) → 16 ≤ m .state .depth → e .pops ≤ 16 → m .state .depth ≤ length (m .memory .opStack) → 16 ≤ depthAfter m e → depthAfter m e ≤ length (m .memory .opStack) →
     callRecords (m .state .clock) (e .calls) ++ stackRecords (m .state .clock) (stackAfter m e) (stackAfter m e) (m .state .depth) (depthAfter m e) ≡ recordsOf m e
@@ -288,10 +290,6 @@ records-after m e h k l i j =
     let below = applied-below (m .memory .opStack) (e .words) d (e .pops) (omega arith) l j (d - e .pops) (omega arith) in
     ap (λ (rs : List Record). callRecords (m .state .clock) (e .calls) ++ rs)
     (stack-same (m .state .clock) (m .memory .opStack) (stackAfter m e) d (depthAfter m e) (d - e .pops) (sym below) h i (omega arith))
-
--- a plain effect's records have room in the shortest buffer
-pub plain-fits : (e : Arrays) (d : ℕ) → Countable e → e .pops ≤ 16 → e .count ≤ 16 → e .pops ≤ d → callBytes e + stackBytes d (d - e .pops + e .count) ≤ 1024
-plain-fits e d c h k l = omega arith
 
 -- ---- what a step gives: the buffer, and how many bytes
 

@@ -12,6 +12,7 @@ use Rattle.machine.specs.Choice.{cond}
 use Rattle.machine.specs.Ram.{Cells}
 use Rattle.machine.specs.Instruction.{Row, Argument, Change, grows, shrinks, grows-by-argument, shrinks-by-argument, table, known, decodeIn, decode, grownBy, shrunkBy, bytesIn, argumentFault}
 use Rattle.machine.specs.Machine.{Machine}
+use Rattle.machine.specs.Machine as M
 use Rattle.machine.specs.Effect.{Call, Effect, acts}
 use Rattle.machine.specs.Decide.{opcodeOf, argumentOf, decideOf}
 use Rattle.machine.specs.Apply.{depthAfter, stackAfter}
@@ -71,12 +72,19 @@ moved shrinks-by-argument n d k l h e = omega arith
 
 -- ---- a step's records
 
-done-bytes : (m : Machine) → Sound m → (e : Effect) (k : Done m e) → length (logBytes (recordsOf m e)) ≡ bytesIn (k .row) (argumentOf m)
-unfolding recordsOf bytesIn
-done-bytes m s e k =
+-- an effect's own calls, and the places that the stack wins or loses below the top sixteen
+pub records-length : (m : Machine) (e : Effect) → Honest (M.ram m) (e .calls) →
+    length (logBytes (recordsOf m e)) ≡ callSizes (e .calls) + (25 * (depthAfter m e - m .state .depth) + 25 * (m .state .depth - depthAfter m e))
+unfolding recordsOf
+records-length m e h =
     log-length (callRecords (m .state .clock) (e .calls)) _
-    ∙ rw (calls-length (m .state .clock) (k .does .own .calls), stack-records-length (m .state .clock) (m .memory .opStack) (stackAfter m e) (m .state .depth) (depthAfter m e))
-    (omega (arith, k .does .own .sizes, moved (k .row .change) (argumentOf m) (m .state .depth) (e .pops) (length (e .words)) (omega (arith, k .does .own .pops, s .deep)) (k .does .own .change)))
+    ∙ rw (calls-length (m .state .clock) h, stack-records-length (m .state .clock) (m .memory .opStack) (stackAfter m e) (m .state .depth) (depthAfter m e))
+
+done-bytes : (m : Machine) → Sound m → (e : Effect) (k : Done m e) → length (logBytes (recordsOf m e)) ≡ bytesIn (k .row) (argumentOf m)
+unfolding bytesIn
+done-bytes m s e k =
+    records-length m e (k .does .own .calls)
+    ∙ (omega (arith, k .does .own .sizes, moved (k .row .change) (argumentOf m) (m .state .depth) (e .pops) (length (e .words)) (omega (arith, k .does .own .pops, s .deep)) (k .does .own .change)))
 
 pub step-bytes : (m : Machine) → Sound m → (e : Effect) → decideOf m ≡ acts e → (r : Row) → decode (opcodeOf m) ≡ known r →
     length (logBytes (recordsOf m e)) ≡ bytesIn r (argumentOf m)
@@ -100,7 +108,7 @@ smallFor Argument.place-of-stack r = leb (bytesIn r 15) 1024
 smallFor Argument.any r = cond (fixed (r .change)) (cond (eqb (r .ramPerWord) 0) (leb (bytesIn r 0) 1024) false) false
 
 -- every row passes the test
-abbrev allOf : (Row → Bool) → List Row → Bool
+abbrev pub allOf : (Row → Bool) → List Row → Bool
 allOf f [] = true
 allOf f (r ∷ rs) = cond (f r) (allOf f rs) false
 
@@ -113,6 +121,10 @@ all-in f (r ∷ rs) op q h e = go (f r) (eqb (r .opcode) op) refl h e (all-in f 
     go true true a b c ih = let y : r ≡ q = cc in ap f (sym y) ∙ a
     go true false a b c ih = ih b c
     go false u a b c ih = let z : _≡_ {A = ℕ} 0 1 = cc in absurd (omega arith)
+
+pub all-decode : (f : Row → Bool) (op : ℕ) (r : Row) → allOf f table ≡ true → decode op ≡ known r → f r ≡ true
+unfolding decode
+all-decode f op r h e = all-in f table op r h e
 
 all-small : allOf (λ r. smallFor (r .argument) r) table ≡ true
 unfolding table bytesIn
@@ -163,8 +175,7 @@ small-bytes r n = go (r .argument)
         any false y a b c = let z : _≡_ {A = ℕ} 0 1 = cc in absurd (omega arith)
 
 pub bytes-few : (op n : ℕ) (r : Row) → decode op ≡ known r → argumentFault (r .argument) n ≡ 0 → bytesIn r n ≤ 1024
-unfolding decode
-bytes-few op n r e h = small-bytes r n (all-in (λ r. smallFor (r .argument) r) table op r all-small e) h
+bytes-few op n r e h = small-bytes r n (all-decode (λ r. smallFor (r .argument) r) op r all-small e) h
 
 pub step-few : (m : Machine) → Sound m → (e : Effect) → decideOf m ≡ acts e → length (logBytes (recordsOf m e)) ≤ 1024
 step-few m s e h = go (done m s e h)

@@ -1,7 +1,7 @@
 -- Records in the call buffer, each behind the last one.
 use mathlib.Core.Path.{_≡_}
 use mathlib.Core.List.{List, [], _∷_, _++_}
-use Prim.Native.Nat.{ℕ, zero, suc, _+_, _-_, _*_, _≤_}
+use Prim.Native.Nat.{ℕ, zero, suc, _+_, _-_, _*_, _≤_, min}
 use lib.ListN.{length, getD, take, drop}
 use Rattle.machine.specs.declared.effect.Effect.{Effect as Arrays}
 use Rattle.machine.specs.declared.effect.U32Call.{U32Call}
@@ -35,15 +35,14 @@ accesses t a v dir i (suc n) = accesses t a v dir i n ++ (ram t (getD a (i + n) 
 
 -- how many bytes an effect's calls take, and a change of the depth
 abbrev pub callBytes : Arrays → ℕ
-callBytes e = 22 * e .u32s + 25 * e .reads + 25 * e .writes
+callBytes e = 22 * min (e .u32s) 2 + 25 * e .reads + 25 * e .writes
 
 abbrev pub stackBytes : ℕ → ℕ → ℕ
 stackBytes d d2 = 25 * (d2 - d) + 25 * (d - d2)
 
--- an effect has no more calls than its arrays hold
-pub record Countable (e : Arrays) : Type 0 where
-  pub u32s : e .u32s ≤ 2
-  pub accesses : e .reads + e .writes ≤ 10
+-- an effect has no more accesses of RAM than its arrays hold
+abbrev pub Countable : Arrays → Type 0
+Countable e = e .reads + e .writes ≤ 10
 
 -- both depths are at least 16 and within the stack
 pub record Deep (s : List ℕ) (d d2 : ℕ) : Type 0 where

@@ -1,11 +1,11 @@
 // A step's records in the lent call buffer, each written into the part behind the last one.
 ghost use mathlib.Core.Path.{_≡_};
 ghost use mathlib.Core.List.{[] as Nil, _∷_, _++_};
-ghost use Prim.Native.Nat.{_+_, _*_, _%_, _≤_, _<_};
+ghost use Prim.Native.Nat.{_+_, _*_, _%_, _≤_, _<_, min};
 ghost use lib.ListN.{length};
 ghost use Rattle.machine.specs.Bytes.{bytesOf};
 ghost use Rattle.machine.specs.Records.{other, stack as stacked, ram, recordBytes, wordsBytes, growing, shrinking, stackRecords, callRecords};
-ghost use Rattle.machine.specs.Effect.{tip5};
+ghost use Rattle.machine.specs.Effect.{reset, tip5};
 ghost use Rattle.machine.specs.EffectView.{callsOf};
 ghost use Rattle.machine.specs.Logged.{logged, Wrote, accesses, callBytes, stackBytes, Countable, Deep, LogRoom, u32Record, u32Records};
 use crate::effect::Effect;
@@ -114,7 +114,7 @@ fn ram_record(b: &mut [u8], clock: u32, address: u64, value: u64, dir: u8)
 
 // ---- the same behind place `at`; each gives the next place
 
-pub fn log_reset(b: &mut [u8], at: usize) -> usize
+fn log_reset(b: &mut [u8], at: usize) -> usize
     requires { ⌜ at + 4 ≤ length (now b) ⌝ }
     ensures { λ r. ⌜ Wrote (now (b .entry)) (now (b .exit)) at (other 1 Nil ∷ Nil) 4 r ⌝ }
 {
@@ -156,10 +156,10 @@ fn log_ram(b: &mut [u8], at: usize, clock: u32, address: u64, value: u64, dir: u
 
 // ---- runs of records
 
-// The first n of two calls of the U32 table.
+// The first n of two calls of the U32 table, both where n is more.
 fn log_u32s(b: &mut [u8], at: usize, n: usize, first: U32Call, second: U32Call) -> usize
-    requires { ⌜ (at + 22 * n ≤ length (now b)) × (n ≤ 2) ⌝ }
-    ensures { λ r. ⌜ Wrote (now (b .entry)) (now (b .exit)) at (u32Records n first second) (22 * n) r ⌝ }
+    requires { ⌜ at + 22 * min n 2 ≤ length (now b) ⌝ }
+    ensures { λ r. ⌜ Wrote (now (b .entry)) (now (b .exit)) at (u32Records n first second) (22 * min n 2) r ⌝ }
 {
     if n == 0 {
         return at;
@@ -285,6 +285,25 @@ pub fn write_plain(
 {
     let next = log_calls(b, 0, clock, effect);
     log_depth(b, next, clock, stack, depth, after)
+}
+
+// A sponge reset first.
+pub fn write_reset(
+    b: &mut [u8],
+    clock: u32,
+    effect: Effect,
+    stack: &[u64],
+    depth: usize,
+    after: usize,
+) -> usize
+    requires { ⌜ LogRoom 4 effect (now stack) (now b) depth after ⌝ }
+    ensures { λ r. ⌜ Wrote (now (b .entry)) (now (b .exit)) 0
+        (callRecords clock (reset ∷ callsOf effect) ++ stackRecords clock (now (stack .entry)) (now (stack .entry)) depth after)
+        (4 + callBytes effect + stackBytes depth after) r ⌝ }
+{
+    let next = log_reset(b, 0);
+    let then = log_calls(b, next, clock, effect);
+    log_depth(b, then, clock, stack, depth, after)
 }
 
 // A Tip5 record first.

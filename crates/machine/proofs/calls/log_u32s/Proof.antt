@@ -34,8 +34,7 @@ returns-3 c =
     let k2 = c .before .before in
     let k1 = k2 .before .before .before .before .before in
     let a = k1 .before .before .before .before .args in
-    let e : a .n ≡ 2 = omega arith in
-    wrote-more (omega arith) (k1 .log-u32 .ensures) (k2 .log-u322 .ensures) (u32s-two (a .n) (a .first) (a .second) e) (omega arith)
+    wrote-more (omega arith) (k1 .log-u32 .ensures) (k2 .log-u322 .ensures) (u32s-two (a .n) (a .first) (a .second) (omega arith)) (omega arith)
 
 pub log-u32s-spec : {M : Type 1} → statement M
 log-u32s-spec =
