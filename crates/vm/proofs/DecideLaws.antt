@@ -1,15 +1,24 @@
--- What place A allows of arguments, and that an opcode of no instruction is not decoded. Assumes nothing.
+-- What place A allows of arguments, that an opcode of no instruction is not decoded, and what an instruction is handed of a sound
+-- machine. Assumes nothing.
 use mathlib.Core.Path.{_≡_, refl, sym, ap, subst, _∙_}
 use mathlib.Core.Bool.{Bool, true, false}
 use mathlib.Core.List.{List, [], _∷_}
-use Prim.Native.Nat.{ℕ, _≤_, _<_}
+use Prim.Native.Nat.{ℕ, _-_, _≤_, _<_}
 use native.Mathlib.Omega.{arith}
-use borrow.Author.Tests.{ltb-false, eqb-true, eq-eqb, ne-eqb}
+use borrow.Author.Tests.{ltb-true, ltb-false, eqb-true, eq-eqb, ne-eqb}
 use mathlib.Core.Logic.{inl, inr, _⊎_}
+use lib.ListN.{length, getD}
 use lib.Dec.{eqb, ltb}
+use Rattle.machine.specs.declared.vm.VMState.{VMState}
 use Rattle.machine.specs.Choice.{cond}
 use Rattle.machine.specs.Instruction.{Row, Argument, words, place-of-stack, table, Decoded, known, unknown, decodeIn, decode, argumentFault}
-use Rattle.vm.specs.DecideView.{isOne, hashes}
+use Rattle.machine.specs.Ram.{cells}
+use Rattle.machine.specs.Machine.{machine, code, memory, topOf, empty, entry, jumpTop}
+use Rattle.machine.specs.EffectView.{jumpTopOf}
+use Rattle.vm.specs.DecideView.{isOne, hashes, Handed, handed, Reliable, Shows, HandedHash, handedHash, ReliableHash, ShowsHash, lastOf, StandingPlain, StandingHash}
+use Rattle.machine.proofs.Words.{words-getD}
+use Rattle.machine.proofs.OpStack.{top-words}
+use Rattle.machine.proofs.Rows.{argument-at}
 use Rattle.machine.proofs.TableLaws.{OneOf, Rest}
 
 pub words-allowed : (n : ℕ) → argumentFault words n ≡ 0 → n ≤ 5
@@ -39,6 +48,10 @@ row-opcode (q ∷ rs) op r e = go (eqb (q .opcode) op) refl e (row-opcode rs op 
     go : (t : Bool) → eqb (q .opcode) op ≡ t → cond t (known q) (decodeIn rs op) ≡ known r → (decodeIn rs op ≡ known r → r .opcode ≡ op) → r .opcode ≡ op
     go true h k ih = let y : q ≡ r = cc in subst (λ (x : Row). x .opcode ≡ op) y (eqb-true (q .opcode) op h)
     go false h k ih = ih k
+
+pub decoded-opcode : (op : ℕ) (r : Row) → decode op ≡ known r → r .opcode ≡ op
+unfolding decode
+decoded-opcode op r e = row-opcode table op r e
 
 -- 1 where there is no instruction, or one that hashes
 abbrev pub hashingIn : Decoded → ℕ
@@ -79,3 +92,60 @@ pub not-hashing : (op : ℕ) → Rest op ((44 ∷ []) ∷ (36 ∷ []) ∷ (56 �
 unfolding hashes
 not-hashing op (((((((u, a), b), c), d), e), f), g) =
     rw (ne-eqb op 18 a, ne-eqb op 34 c, ne-eqb op 36 f, ne-eqb op 40 b, ne-eqb op 44 g, ne-eqb op 48 d, ne-eqb op 56 e)
+
+-- ---- what a sound machine that stands on a slot shows
+
+jump-same : (from to : List ℕ) (n : ℕ) → cond (ltb 0 n) (entry (getD from (n - 1) 0) (getD to (n - 1) 0)) empty ≡ jumpTopOf n (lastOf from n) (lastOf to n)
+unfolding lastOf
+jump-same from to n = go (ltb 0 n) refl
+  where
+    go : (t : Bool) → ltb 0 n ≡ t → cond t (entry (getD from (n - 1) 0) (getD to (n - 1) 0)) empty ≡ cond t (entry (lastOf from n) (lastOf to n)) empty
+    go true e = let h : 0 < n = ltb-true 0 n e in let y : n ≡ 0 → ⊥ = λ z. absurd (omega arith) in rw (ne-eqb n 0 y)
+    go false e = refl
+
+-- what an instruction without a trace is handed
+abbrev pub shown : VMState → List ℕ → List ℕ → List ℕ → List ℕ → List ℕ → List ℕ → List ℕ → List ℕ → List ℕ → Handed
+shown s o a u x w from to c v =
+    handed (getD o (s .pointer) 0) (getD a (s .pointer) 0) (topOf w (s .depth)) (s .pointer) o u (s .publics) x (s .secrets)
+    (jumpTopOf (s .jumps) (lastOf from (s .jumps)) (lastOf to (s .jumps))) (cells (s .cells) c v)
+
+pub plain-reliable : {s : VMState} {o a u x w from to c v : List ℕ} → StandingPlain s o a u x w from to c v → Reliable (shown s o a u x w from to c v)
+plain-reliable {s} {o} {a} h =
+    let m = h .sound in
+    record {
+      words = top-words (s .depth) (m .opStack .words);
+      inside = h .inside;
+      pointer = m .pointer;
+      public = m .publics;
+      secret = m .secrets;
+      addresses = m .cells .used;
+      values = omega (arith, m .cells .used, m .cells .pair);
+      heldWords = m .cells .values;
+      argument = words-getD (s .pointer) (m .code .arguments);
+      allowed = argument-at o a (length o) (s .pointer) (h .inside) (m .code .allowed);
+      plain = h .plain;
+    }
+
+pub plain-shows : (s : VMState) (o a u x w from to c v digests output : List ℕ) → Shows (machine s (code o a u x digests) (memory w from to c v output)) (shown s o a u x w from to c v)
+unfolding jumpTop
+plain-shows s o a u x w from to c v digests output =
+    record { top = refl; pointer = refl; opcodes = refl; public = refl; secret = refl; jump = jump-same from to (s .jumps); cells = refl }
+
+-- and one with a trace
+abbrev pub shownHash : VMState → List ℕ → List ℕ → List ℕ → List ℕ → List ℕ → HandedHash
+shownHash s o d w c v = handedHash (getD o (s .pointer) 0) (topOf w (s .depth)) (s .sponge) d (s .digests) (cells (s .cells) c v)
+
+pub hash-reliable : {s : VMState} {o d w c v : List ℕ} → StandingHash s o d w c v → ReliableHash (shownHash s o d w c v)
+hash-reliable {s} h =
+    let m = h .sound in
+    record {
+      words = top-words (s .depth) (m .opStack .words);
+      digests = m .digests;
+      addresses = m .cells .used;
+      values = omega (arith, m .cells .used, m .cells .pair);
+      hashing = h .hashing;
+    }
+
+pub hash-shows : (s : VMState) (o d w c v arguments public secret origins destinations output : List ℕ) →
+    ShowsHash (machine s (code o arguments public secret d) (memory w origins destinations c v output)) (shownHash s o d w c v)
+hash-shows s o d w c v arguments public secret origins destinations output = record { top = refl; sponge = refl; digests = refl; cells = refl }

@@ -12,6 +12,7 @@ use lib.Dec.{ltb}
 use Rattle.tip5.specs.declared.sponge.Sponge.{Sponge}
 use Rattle.machine.specs.declared.vm.VMState.{VMState}
 use Rattle.machine.specs.declared.effect.Effect.{Effect as Arrays}
+use Rattle.machine.specs.declared.effect.U32Call.{U32Call}
 use Rattle.machine.specs.declared.hashing.Hashed.{Hashed}
 use Rattle.machine.specs.Choice.{cond}
 use Rattle.machine.specs.Copied.{copied}
@@ -19,7 +20,8 @@ use Rattle.machine.specs.Ram.{Cells, cells, stored}
 use Rattle.machine.specs.RamView.{Room}
 use Rattle.machine.specs.Machine.{Memory, memory, Machine, ram}
 use Rattle.machine.specs.Effect.{Call, reset, tip5, u32, ramRead, ramWrite, stays, pushes, pops, SpongeChange, keeps, becomes, Effect}
-use Rattle.machine.specs.EffectView.{accessesFrom, readsFrom, writesFrom, jumpOf, effectOf}
+use Rattle.machine.specs.EffectView.{u32sOf, accessesFrom, readsFrom, writesFrom, jumpOf, effectOf}
+use Rattle.machine.specs.Logged.{callBytes}
 use Rattle.machine.specs.HashedView.{withSponge, hashedCalls, hashedEffect}
 use Rattle.machine.specs.Apply.{put, appliedStack, originsAfter, destinationsAfter, touched, pointerAfter, spongeAfter, performedAt, performed, limitsOf}
 use Rattle.vm.specs.PerformView.{jumpWords, Fit, movedTo, Ready, Performed}
@@ -245,3 +247,17 @@ ready-of m e change cs s f n l =
 pub ready-plain : (m : Machine) (e : Arrays) → Sound m → Facts m (effectOf e) → e .reads + e .writes ≤ 10 → limitsOf m (effectOf e) ≡ 0 → Ready (m .state) e (m .memory)
 unfolding effectOf
 ready-plain m e s f n l = ready-of m e keeps (effectOf e .calls) s f n l
+
+-- ---- the bytes of an effect's calls, exactly
+
+u32s-bytes : (n : ℕ) (a b : U32Call) → callSizes (u32sOf n a b) ≡ 22 * min n 2
+unfolding u32sOf
+u32s-bytes zero a b = refl
+u32s-bytes (suc zero) a b = refl
+u32s-bytes (suc (suc n)) a b = let e : min (suc (suc n)) 2 ≡ 2 = omega arith in rw e
+
+pub call-bytes : (e : Arrays) → callSizes (effectOf e .calls) ≡ callBytes e
+unfolding effectOf
+call-bytes e =
+    simp sizes-append
+    (omega (arith, u32s-bytes (e .u32s) (e .«u32_0») (e .«u32_1»), reads-bytes (e .addresses) (e .values) 0 (e .reads), writes-bytes (e .addresses) (e .values) (e .reads) (e .writes)))

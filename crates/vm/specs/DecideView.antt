@@ -1,12 +1,13 @@
 -- What the code that decides relies on, and which of its two ways an instruction takes.
-use Prim.Native.Nat.{ℕ, _*_, _≤_, _<_}
+use Prim.Native.Nat.{ℕ, _-_, _*_, _≤_, _<_}
 use mathlib.Core.Path.{_≡_}
 use mathlib.Core.Bool.{Bool, true, false}
 use mathlib.Core.List.{List, [], _∷_}
 use lib.ListN.{length, getD, take, drop}
-use lib.Dec.{eqb}
+use lib.Dec.{eqb, ltb}
 use Rattle.field.specs.Base.{p}
 use Rattle.tip5.specs.declared.sponge.Sponge.{Sponge}
+use Rattle.machine.specs.declared.vm.VMState.{VMState}
 use Rattle.machine.specs.declared.effect.Decided.{Decided}
 use Rattle.machine.specs.declared.hashing.Hashed.{Hashed}
 use Rattle.machine.specs.Choice.{cond}
@@ -14,7 +15,7 @@ use Rattle.machine.specs.Words.{Words}
 use Rattle.machine.specs.Ram.{Cells}
 use Rattle.machine.specs.Refusal.{plainly}
 use Rattle.machine.specs.Instruction.{Instruction, Row, Decoded, known, unknown, decode}
-use Rattle.machine.specs.Machine.{Machine, JumpTop, ram, jumpTop, publicLeft, secretLeft, digestsLeft}
+use Rattle.machine.specs.Machine.{Machine, machine, code, memory, JumpTop, ram, jumpTop, publicLeft, secretLeft, digestsLeft}
 use Rattle.machine.specs.Machine as M
 use Rattle.machine.specs.Effect.{Decision, refuses}
 use Rattle.machine.specs.EffectView.{decisionOf}
@@ -22,11 +23,6 @@ use Rattle.machine.specs.HashedView.{hashedOf}
 use Rattle.machine.specs.PlaceA.{argument4}
 use Rattle.machine.specs.Decide.{effectOf, opcodeOf, argumentOf}
 use Rattle.machine.specs.Sound.{Sound}
-
--- a sound machine that stands on a slot
-pub record Standing (m : Machine) : Type 0 where
-  pub sound : Sound m
-  pub inside : m .state .pointer < length (m .code .opcodes)
 
 -- what the slot's instruction does
 abbrev pub actIn : Decoded → ℕ → Machine → Decision
@@ -118,3 +114,37 @@ pub record ShowsHash (m : Machine) (h : HandedHash) : Type 0 where
 
 pub record ActedHash (h : HandedHash) (r : Hashed) : Type 0 where
   pub is : (n : ℕ) (m : Machine) → ShowsHash m h → hashedOf r ≡ actIn (decode (h .opcode)) n m
+
+-- ---- a sound machine that stands on a slot
+
+-- the last of n words, or 0
+unfoldable pub lastOf : List ℕ → ℕ → ℕ
+lastOf s n = cond (eqb n 0) 0 (getD s (n - 1) 0)
+
+-- its slot's instruction has no trace; what an instruction does not look at may be anything
+pub record StandingPlain (s : VMState) (o a u x w from to c v : List ℕ) : Type 0 where
+  pub digests : List ℕ
+  pub output : List ℕ
+  pub sound : Sound (machine s (code o a u x digests) (memory w from to c v output))
+  pub inside : s .pointer < length o
+  pub plain : hashes (getD o (s .pointer) 0) ≡ false
+
+pub record DecidedPlain (s : VMState) (o a u x w from to c v : List ℕ) (r : Decided) : Type 0 where
+  pub is : (digests output : List ℕ) →
+      decisionOf r ≡ actIn (decode (getD o (s .pointer) 0)) (getD a (s .pointer) 0) (machine s (code o a u x digests) (memory w from to c v output))
+
+-- it has one, or sets the sponge
+pub record StandingHash (s : VMState) (o d w c v : List ℕ) : Type 0 where
+  pub arguments : List ℕ
+  pub public : List ℕ
+  pub secret : List ℕ
+  pub origins : List ℕ
+  pub destinations : List ℕ
+  pub output : List ℕ
+  pub sound : Sound (machine s (code o arguments public secret d) (memory w origins destinations c v output))
+  pub inside : s .pointer < length o
+  pub hashing : hashes (getD o (s .pointer) 0) ≡ true
+
+pub record DecidedHash (s : VMState) (o d w c v : List ℕ) (r : Hashed) : Type 0 where
+  pub is : (n : ℕ) (arguments public secret origins destinations output : List ℕ) →
+      hashedOf r ≡ actIn (decode (getD o (s .pointer) 0)) n (machine s (code o arguments public secret d) (memory w origins destinations c v output))

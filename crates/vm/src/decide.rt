@@ -1,8 +1,10 @@
 // What the next instruction does: places B and C.
 ghost use mathlib.Core.Path.{_≡_};
+ghost use Prim.Native.Nat.{_≤_};
+ghost use lib.ListN.{length};
 ghost use Rattle.machine.specs.Ram.{cells};
 ghost use Rattle.machine.specs.EffectView.{jumpTopOf};
-ghost use Rattle.vm.specs.DecideView.{handed, handedHash, hashes as hashesOf, Reliable, ReliableHash, Acted, ActedHash};
+ghost use Rattle.vm.specs.DecideView.{handed, handedHash, hashes as hashesOf, Reliable, ReliableHash, Acted, ActedHash, lastOf, StandingPlain, DecidedPlain, StandingHash, DecidedHash};
 use machine::arithmetic;
 use machine::bitwise;
 use machine::control;
@@ -13,8 +15,10 @@ use machine::hashing::Hashed;
 use machine::input_output;
 use machine::many_in_one;
 use machine::memory;
+use machine::op_stack::top;
 use machine::refusal::InstructionError;
 use machine::stack;
+use machine::vm::VMState;
 use tip5::sponge::Sponge;
 
 // Whether an instruction's effect carries a trace or changes the sponge.
@@ -117,4 +121,82 @@ pub fn act_hashing(
         44 => many_in_one::merkle_step_mem(addresses, values, count, w),
         _ => hashing::refused(InstructionError::UnknownOpcode),
     }
+}
+
+// ---- the same of the machine that stands on a slot
+
+// The last of n words, or 0.
+fn last(s: &[u64], n: usize) -> u64
+    requires { ⌜ n ≤ length (now s) ⌝ }
+    ensures { λ r. ⌜ r ≡ lastOf (now (s .entry)) n ⌝ }
+{
+    if n == 0 { 0 } else { s[n - 1] }
+}
+
+// An instruction without a trace.
+pub fn plain(
+    state: VMState,
+    opcodes: &[u64],
+    arguments: &[u64],
+    public: &[u64],
+    secret: &[u64],
+    op_stack: &[u64],
+    origins: &[u64],
+    destinations: &[u64],
+    addresses: &[u64],
+    values: &[u64],
+) -> Decided
+    requires { ⌜ StandingPlain state (now opcodes) (now arguments) (now public) (now secret) (now «op_stack») (now origins) (now destinations) (now addresses) (now values) ⌝ }
+    ensures { λ r. ⌜ DecidedPlain state (now (opcodes .entry)) (now (arguments .entry)) (now (public .entry)) (now (secret .entry)) (now («op_stack» .entry)) (now (origins .entry)) (now (destinations .entry)) (now (addresses .entry)) (now (values .entry)) r ⌝ }
+{
+    let pointer = state.pointer;
+    let at = pointer as usize;
+    let w = top(op_stack, state.depth);
+    let jumps = state.jumps;
+    let origin = last(origins, jumps);
+    let destination = last(destinations, jumps);
+    act(
+        opcodes[at],
+        arguments[at],
+        w,
+        pointer,
+        opcodes,
+        public,
+        state.publics,
+        secret,
+        state.secrets,
+        jumps,
+        origin,
+        destination,
+        addresses,
+        values,
+        state.cells,
+    )
+}
+
+// An instruction with a trace, or sponge_init.
+pub fn hashing(
+    state: VMState,
+    opcodes: &[u64],
+    digests: &[u64],
+    op_stack: &[u64],
+    addresses: &[u64],
+    values: &[u64],
+) -> Hashed
+    requires { ⌜ StandingHash state (now opcodes) (now digests) (now «op_stack») (now addresses) (now values) ⌝ }
+    ensures { λ r. ⌜ DecidedHash state (now (opcodes .entry)) (now (digests .entry)) (now («op_stack» .entry)) (now (addresses .entry)) (now (values .entry)) r ⌝ }
+{
+    let at = state.pointer as usize;
+    let w = top(op_stack, state.depth);
+    let sponge = state.sponge;
+    act_hashing(
+        opcodes[at],
+        w,
+        sponge,
+        digests,
+        state.digests,
+        addresses,
+        values,
+        state.cells,
+    )
 }
