@@ -1,5 +1,6 @@
 -- The laws that the proofs cite.
 pub mod DecideLaws
+pub mod FaultsLaws
 pub mod LimitsLaws
 pub mod PerformLaws
 pub mod StepLaws

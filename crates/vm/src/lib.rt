@@ -1,6 +1,7 @@
 // The machine's calls: what the next instruction does, a step, a run.
 pub mod answer;
 pub mod decide;
+pub mod faults;
 pub mod limits;
 pub mod perform;
 pub mod step;
