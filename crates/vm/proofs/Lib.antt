@@ -2,5 +2,6 @@
 pub mod DecideLaws
 pub mod FaultsLaws
 pub mod LimitsLaws
+pub mod OpenLaws
 pub mod PerformLaws
 pub mod StepLaws

@@ -3,5 +3,6 @@ pub mod answer;
 pub mod decide;
 pub mod faults;
 pub mod limits;
+pub mod open;
 pub mod perform;
 pub mod step;
