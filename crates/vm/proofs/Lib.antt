@@ -1,6 +1,7 @@
 -- The laws that the proofs cite.
 pub mod DecideLaws
 pub mod FaultsLaws
+pub mod HelpedLaws
 pub mod LimitsLaws
 pub mod OpenLaws
 pub mod PerformLaws

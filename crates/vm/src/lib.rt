@@ -2,6 +2,7 @@
 pub mod answer;
 pub mod decide;
 pub mod faults;
+pub mod helper_variables;
 pub mod limits;
 pub mod open;
 pub mod perform;
