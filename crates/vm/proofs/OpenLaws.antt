@@ -3,7 +3,7 @@ use mathlib.Core.Path.{_≡_, refl, sym, ap, _∙_}
 use mathlib.Core.List.{List, [], _∷_, append-nil}
 use Prim.Native.Nat.{ℕ, _+_, _-_, _≤_}
 use native.Mathlib.Omega.{arith}
-use lib.ListN.{length, take, drop, replicate, length-drop, length-replicate, drop-of-length-le}
+use lib.ListN.{length, getD, take, drop, replicate, length-drop, length-replicate, drop-of-length-le}
 use lib.Seq.{take-all}
 use Rattle.machine.specs.declared.refusal.InstructionError.{InstructionError}
 use Rattle.machine.specs.declared.vm.VMState.{VMState}
@@ -23,7 +23,7 @@ use Rattle.vm.specs.OpenView.{registersOf, noState, Opens}
 -- ---- the stacks
 
 -- all words taken off, and five put on
-pub five-put : (a b c d e : ℕ) (s : List ℕ) (n : ℕ) → n ≡ length s → 5 ≤ n → appliedStack s n n (a ∷ b ∷ c ∷ d ∷ e ∷ []) ≡ a ∷ b ∷ c ∷ d ∷ e ∷ replicate (n - 5) 0
+five-put : (a b c d e : ℕ) (s : List ℕ) (n : ℕ) → n ≡ length s → 5 ≤ n → appliedStack s n n (a ∷ b ∷ c ∷ d ∷ e ∷ []) ≡ a ∷ b ∷ c ∷ d ∷ e ∷ replicate (n - 5) 0
 unfolding appliedStack
 five-put a b c d e s n h l =
     let z : n - n ≡ 0 = omega arith in
@@ -32,6 +32,11 @@ five-put a b c d e s n h l =
     let q : length (drop 5 s) ≡ length s - 5 = length-drop 5 s in
     let x : drop (5 + (n - 5)) (a ∷ b ∷ c ∷ d ∷ e ∷ drop 5 s) ≡ [] = drop-of-length-le (a ∷ b ∷ c ∷ d ∷ e ∷ drop 5 s) {i = 5 + (n - 5)} (omega arith) in
     rw (z, r, t, x) (ap (λ (y : List ℕ). a ∷ b ∷ c ∷ d ∷ e ∷ y) (append-nil (replicate (n - 5) 0)))
+
+pub stack-opened : (g s : List ℕ) {w r : List ℕ} → 16 ≤ length s → r ≡ appliedStack s (length s) (length s) w →
+    w ≡ getD g 4 0 ∷ getD g 3 0 ∷ getD g 2 0 ∷ getD g 1 0 ∷ getD g 0 0 ∷ [] → r ≡ openedStack g s
+unfolding openedStack
+stack-opened g s h l e = l ∙ rw e (five-put (getD g 4 0) (getD g 3 0) (getD g 2 0) (getD g 1 0) (getD g 0 0) s (length s) refl (omega arith))
 
 pub wiped : (s : List ℕ) {r : List ℕ} → r ≡ copied s 0 (replicate (length s) 0) (length s) → r ≡ replicate (length s) 0
 wiped s {r} h =

@@ -15,7 +15,8 @@ helpers-requires c κs =
     let s = c .before .before .before .before .before .before .before .before .before .before .before .before .before in
     let w = s .args .state .sponge .words in
     let sixteen : length w ≡ 16 = length-unmapped ℕ w 16 (s .good .0 .1 .1 .1 .1 .1 .1 .1 .1 .1 .1 .1 .0 .1 .1 .0 .1 .0 .1) in
-    accepted-helpable _ (c .before .check-machine .ensures) (c .if1 .taken) sixteen (search needs)
+    let h = accepted-helpable _ (c .before .check-machine .ensures) (c .if1 .taken) sixteen (search needs) in
+    record { slots = h .slots; deep = h .deep; used = h .used; words = h .words; digests = h .digests; addresses = h .addresses; values = h .values }
 
 returns : tie.Need-returns
 returns c = helped-is _ (c .before .before .check-machine .ensures) (c .before .if1 .taken) (c .helpers .ensures .is _ _ _ _ _)

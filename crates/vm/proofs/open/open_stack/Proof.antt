@@ -1,9 +1,7 @@
 -- `vm::open::open_stack` meets its contract. Assumes nothing.
 use borrow.Author.Needs.{needs}
-use mathlib.Core.Path.{refl, _∙_}
-use native.Mathlib.Omega.{arith}
-use Rattle.machine.specs.Open.{openedStack}
-use Rattle.vm.proofs.OpenLaws.{five-put}
+use mathlib.Core.Path.{refl}
+use Rattle.vm.proofs.OpenLaws.{stack-opened}
 use Rattle.vm.proofs.open.open_stack.Statement.{statement}
 use Rattle.vm.proofs.open.open_stack.Tie as tie
 
@@ -29,8 +27,9 @@ same-length : tie.Need-same-length
 same-length c = search needs
 
 returns : tie.Need-returns
-unfolding openedStack
-returns c = c .before .before .apply .ensures ∙ five-put _ _ _ _ _ _ _ refl (omega arith)
+returns c =
+    let s = c .before .before .before .before .before in
+    stack-opened (s .args .t2) _ (s .pre) (c .before .before .apply .ensures) refl
 
 pub open-stack-spec : {M : Type 1} → statement M
 open-stack-spec =
