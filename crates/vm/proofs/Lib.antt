@@ -2,7 +2,10 @@
 pub mod Accesses
 pub mod AdvanceLaws
 pub mod DecideLaws
+pub mod FaultsLaws
+pub mod HelpedLaws
 pub mod LimitsLaws
+pub mod OpenLaws
 pub mod PerformLaws
 pub mod PlaceBLaws
 pub mod RecordsLaws

@@ -1,6 +1,8 @@
 -- What the contracts cite.
 pub mod AdvanceView
 pub mod DecideView
+pub mod HelpedView
+pub mod OpenView
 pub mod PerformView
 pub mod PlaceBView
 pub mod RecordsView

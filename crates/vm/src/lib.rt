@@ -2,7 +2,10 @@
 pub mod advance;
 pub mod answer;
 pub mod decide;
+pub mod faults;
+pub mod helper_variables;
 pub mod limits;
+pub mod open;
 pub mod perform;
 pub mod place_b;
 pub mod records;
