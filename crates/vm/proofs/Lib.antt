@@ -9,4 +9,6 @@ pub mod OpenLaws
 pub mod PerformLaws
 pub mod PlaceBLaws
 pub mod RecordsLaws
+pub mod RunLaws
+pub mod SettleLaws
 pub mod StepLaws

@@ -1,72 +1,45 @@
--- What a step's answer is where a limit is met, and where none is. Assumes nothing.
+-- What step's place A says of its call, and what it gives where place A accepts and where it refuses. Assumes nothing.
 use mathlib.Core.Path.{_≡_, refl, sym, ap, _∙_}
-use mathlib.Core.Bool.{Bool, true, false}
-use mathlib.Core.List.{[]}
-use Prim.Native.Nat.{ℕ, _≤_}
+use mathlib.Core.Bool.{true}
+use mathlib.Core.List.{List}
+use Prim.Native.Nat.{ℕ, _<_}
 use native.Mathlib.Omega.{arith}
-use borrow.Author.Tests.{eq-eqb, ne-eqb}
-use lib.Dec.{eqb, ltb}
-use Rattle.tip5.specs.declared.sponge.Sponge.{Sponge}
+use borrow.Author.Tests.{eq-eqb}
+use lib.ListN.{length}
 use Rattle.machine.specs.declared.refusal.InstructionError.{InstructionError}
-use Rattle.machine.specs.Choice.{cond, firstOf, aboveOf}
+use Rattle.machine.specs.Choice.{firstOf, aboveOf}
 use Rattle.machine.specs.Refusal.{refusalOf, plainly}
-use Rattle.machine.specs.Machine.{Code, code, Machine}
-use Rattle.machine.specs.Effect.{Effect}
-use Rattle.machine.specs.Apply.{limitsOf, performedAt}
-use Rattle.vm.specs.declared.answer.Answer.the-variants.{Took, Refused}
-use Rattle.vm.specs.StepView.{Gives, settledAt, turned}
+use Rattle.machine.specs.Machine.{Memory, Machine}
+use Rattle.machine.specs.PlaceA.{longest, buffer1, machineA, stepA}
+use Rattle.machine.specs.Decide.{decideOf}
+use Rattle.machine.specs.Step.{outcomeBy, stepBy}
+use Rattle.machine.proofs.Choice.{first-nil, above-nil}
+use Rattle.machine.proofs.PlaceA.{machine-sound}
+use Rattle.machine.proofs.Refused.{step-refuses}
+use Rattle.vm.specs.declared.answer.Answer.the-variants.{Refused}
+use Rattle.vm.specs.declared.answer.Stepped.{Stepped}
+use Rattle.vm.specs.StepView.{turned, Steps}
+use Rattle.vm.specs.AdvanceView.{Standing, Advanced}
 
--- a program with no slot
-abbrev pub noCode : Code
-noCode = code [] [] [] [] []
+pub step-number : (m : Machine) (b : List ℕ) {s k n : ℕ} → s ≡ firstOf (aboveOf (length b) longest 1) (aboveOf 1024 (length b) 1) → k ≡ machineA m → n ≡ firstOf s k → n ≡ stepA m b
+unfolding stepA buffer1
+step-number m b e f g = g ∙ rw (e, f)
 
--- ---- a limit's number
+-- the sponge has sixteen words and the clock 32 bits by their types
+pub stands : (m : Machine) (b : List ℕ) → length (m .state .sponge .words) ≡ 16 → m .state .clock < 4294967296 → stepA m b ≡ 0 → Standing true m b
+unfolding stepA buffer1
+stands m b sixteen clock h =
+    let k = first-nil _ (machineA m) h in
+    record { sound = machine-sound m sixteen clock (k .1); room = λ _. above-nil 1024 (length b) 1 (omega arith) (first-nil _ (aboveOf 1024 (length b) 1) (k .0) .1) }
 
-record Within (n : ℕ) : Type 0 where
-  low : (n ≡ 0 → ⊥) → 30 ≤ n
-  high : n ≤ 34
+module _ (m : Machine) (b : List ℕ) where
+  pub stepped : {r : Stepped} {n : Memory} {b2 : List ℕ} → stepA m b ≡ 0 → Advanced true m b r n b2 → Steps m b r n b2
+  unfolding stepBy outcomeBy
+  stepped z a =
+      let e = eq-eqb (stepA m b) 0 z in
+      record { gives = rw e (a .gives); bytes = rw e (a .bytes); buffer = rw e (a .buffer) }
 
-above-within : (a b n : ℕ) → 30 ≤ n → n ≤ 34 → Within (aboveOf a b n)
-unfolding aboveOf
-above-within a b n h l = go (ltb b a)
-  where
-    go : (t : Bool) → Within (cond t n 0)
-    go true = record { low = λ _. h; high = l }
-    go false = record { low = λ z. absurd (z refl); high = omega arith }
-
-first-within : {a b : ℕ} → Within a → Within b → Within (firstOf a b)
-unfolding firstOf
-first-within {a} {b} h l = go (eqb a 0)
-  where
-    go : (t : Bool) → Within (cond t b a)
-    go true = l
-    go false = h
-
-limits-within : (m : Machine) (e : Effect) → Within (limitsOf m e)
-unfolding limitsOf
-limits-within m e =
-    first-within (above-within _ _ 30 (omega arith) (omega arith))
-    (first-within (above-within _ _ 31 (omega arith) (omega arith))
-    (first-within (above-within _ _ 32 (omega arith) (omega arith))
-    (first-within (above-within _ _ 33 (omega arith) (omega arith)) (above-within _ _ 34 (omega arith) (omega arith)))))
-
-pub limit-number : (m : Machine) (e : Effect) {n : ℕ} → n ≡ limitsOf m e → (n ≡ 0 → ⊥) → (30 ≤ n) × (n ≤ 34)
-limit-number m e {n} h z =
-    let w = limits-within m e in
-    let l = w .low (λ y. z (h ∙ y)) in
-    let k = w .high in
-    (omega arith, omega arith)
-
-pub last-limit : (n : ℕ) → 30 ≤ n → n ≤ 34 → (n ≡ 30 → ⊥) → (n ≡ 31 → ⊥) → (n ≡ 32 → ⊥) → (n ≡ 33 → ⊥) → n ≡ 34
-last-limit n h l a b c d = omega arith
-
--- ---- the answers
-
-module _ (m : Machine) (e : Effect) (q : ℕ) (s : Sponge) where
-  pub settled-took : {x : Machine} → limitsOf m e ≡ 0 → x ≡ performedAt m e q s → Gives m (settledAt m e q s) Took x
-  settled-took h l = rw (eq-eqb (limitsOf m e) 0 h) (record { answer = refl; left = l })
-
-  pub settled-kept : {n : ℕ} {r : InstructionError} → n ≡ limitsOf m e → (n ≡ 0 → ⊥) → refusalOf r ≡ plainly n → Gives m (settledAt m e q s) (Refused r) m
-  settled-kept {n} h z l =
-      let k : limitsOf m e ≡ 0 → ⊥ = λ y. z (h ∙ y) in
-      rw (ne-eqb (limitsOf m e) 0 k) (record { answer = ap turned (l ∙ ap plainly h); left = refl })
+  pub step-turned : {n : ℕ} {x : InstructionError} → n ≡ stepA m b → (n ≡ 0 → ⊥) → refusalOf x ≡ plainly n → Steps m b (record { answer = Refused x; state = m .state; bytes = 0 }) (m .memory) b
+  step-turned e z h =
+      let k = step-refuses decideOf m b (λ y. z (e ∙ y)) in
+      record { gives = rw k (record { answer = ap turned (h ∙ ap plainly e); left = refl }); bytes = rw k; buffer = rw k }

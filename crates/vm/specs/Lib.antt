@@ -6,4 +6,5 @@ pub mod OpenView
 pub mod PerformView
 pub mod PlaceBView
 pub mod RecordsView
+pub mod RunView
 pub mod StepView

@@ -7,6 +7,7 @@ use Rattle.tip5.specs.declared.sponge.Sponge.{Sponge}
 use Rattle.vm.specs.declared.answer.Answer.{Answer}
 use Rattle.vm.specs.declared.answer.Answer.the-variants.{Took, Refused}
 use Rattle.vm.specs.declared.answer.Moved.{Moved}
+use Rattle.vm.specs.declared.answer.Stepped.{Stepped}
 use Rattle.machine.specs.declared.vm.VMState.{VMState}
 use Rattle.machine.specs.declared.effect.Effect.{Effect as Arrays}
 use Rattle.machine.specs.Choice.{cond}
@@ -15,6 +16,7 @@ use Rattle.machine.specs.Machine.{Code, Memory, Machine, machine}
 use Rattle.machine.specs.Effect.{Effect}
 use Rattle.machine.specs.EffectView.{effectOf}
 use Rattle.vm.specs.PerformView.{Fit, Ready}
+use Rattle.machine.specs.Step.{stepOf}
 use Rattle.machine.specs.Apply.{Outcome, took, kept, lost, performedAt, limitsOf}
 
 -- what a step answers: it is taken, or turned down
@@ -54,3 +56,9 @@ pub record Settling (s : VMState) (e : Arrays) (m : Memory) : Type 0 where
 -- whatever the program and the inputs are
 pub record Settled (s : VMState) (e : Arrays) (q : ℕ) (sponge : Sponge) (m : Memory) (r : Moved) (n : Memory) : Type 0 where
   pub is : (c : Code) → Gives (machine s c m) (settledAt (machine s c m) (effectOf e) q sponge) (r .answer) (machine (r .state) c n)
+
+-- step: the answer, the machine, how many bytes and the call buffer are those of stepOf
+pub record Steps (m : Machine) (b : List ℕ) (r : Stepped) (n : Memory) (b2 : List ℕ) : Type 0 where
+  pub gives : Gives m (stepOf m b .outcome) (r .answer) (machine (r .state) (m .code) n)
+  pub bytes : r .bytes ≡ stepOf m b .bytes
+  pub buffer : b2 ≡ stepOf m b .buffer

@@ -14,7 +14,7 @@ use crate::decide;
 use crate::perform::drop_top;
 use crate::place_b;
 use crate::records;
-use crate::step::settle;
+use crate::settle::settle;
 use machine::effect::Effect;
 use machine::effect::Verdict;
 use machine::instruction::size;

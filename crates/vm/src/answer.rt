@@ -24,15 +24,12 @@ pub struct Stepped {
 pub enum Ending {
     Halted,
     Spent,
-    // Only trace_execution: the log has no room for a step's records.
-    Full,
     Refused(InstructionError),
 }
 
-// How many steps succeeded, how it ended, the registers then, and how many bytes the log has.
+// How many steps succeeded, how it ended, and the registers then.
 pub struct Ran {
     pub count: u64,
     pub ending: Ending,
     pub state: VMState,
-    pub bytes: usize,
 }

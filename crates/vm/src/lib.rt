@@ -1,4 +1,4 @@
-// The machine's calls: what the next instruction does, a step, a run.
+// The machine's calls: open, step, run, trace_execution and helper variables, and what they are made of.
 pub mod advance;
 pub mod answer;
 pub mod decide;
@@ -9,4 +9,6 @@ pub mod open;
 pub mod perform;
 pub mod place_b;
 pub mod records;
+pub mod run;
+pub mod settle;
 pub mod step;

@@ -1,51 +1,43 @@
-// A step behind place A: decided, then applied.
-ghost use mathlib.Core.Path.{_≡_};
-ghost use Prim.Native.Nat.{_≤_};
-ghost use Rattle.machine.specs.Refusal.{refusalOf, plainly};
-ghost use Rattle.machine.specs.Machine.{memory};
-ghost use Rattle.vm.specs.StepView.{Settling, Settled};
+// step: place A, then one step with its records.
+ghost use Rattle.machine.specs.Machine.{machine, code, memory};
+ghost use Rattle.vm.specs.StepView.{Steps};
+use crate::advance::advance;
 use crate::answer::Answer;
-use crate::answer::Moved;
-use crate::limits;
-use crate::perform;
-use machine::effect::Effect;
-use machine::refusal::InstructionError;
+use crate::answer::Stepped;
+use crate::faults::fault;
+use machine::checks::check_buffer;
+use machine::checks::check_machine;
+use machine::checks::first;
 use machine::vm::VMState;
-use tip5::sponge::Sponge;
 
-// The error of a limit's number.
-fn limit(n: u64) -> InstructionError
-    requires { ⌜ (30 ≤ n) × (n ≤ 34) ⌝ }
-    ensures { λ r. ⌜ refusalOf r ≡ plainly n ⌝ }
-{
-    match n {
-        30 => InstructionError::OpStackFull,
-        31 => InstructionError::JumpStackFull,
-        32 => InstructionError::RamFull,
-        33 => InstructionError::OutputFull,
-        _ => InstructionError::ClockAtEnd,
-    }
-}
-
-// What an effect makes of the machine, or the limit that it meets: then nothing is changed.
-pub fn settle(
+// A refused step changes nothing, but that skiz on 0 with nothing next has dropped its word; its bytes are 0.
+pub fn step(
     state: VMState,
-    effect: Effect,
-    pointer: u64,
-    sponge: Sponge,
+    opcodes: &[u64],
+    arguments: &[u64],
+    public: &[u64],
+    secret: &[u64],
+    digests: &[u64],
     op_stack: &mut [u64],
     origins: &mut [u64],
     destinations: &mut [u64],
     addresses: &mut [u64],
     values: &mut [u64],
     output: &mut [u64],
-) -> Moved
-    requires { ⌜ Settling state effect (memory (now «op_stack») (now origins) (now destinations) (now addresses) (now values) (now output)) ⌝ }
-    ensures { λ r. ⌜ Settled state effect pointer sponge (memory (now («op_stack» .entry)) (now (origins .entry)) (now (destinations .entry)) (now (addresses .entry)) (now (values .entry)) (now (output .entry))) r (memory (now («op_stack» .exit)) (now (origins .exit)) (now (destinations .exit)) (now (addresses .exit)) (now (values .exit)) (now (output .exit))) ⌝ }
+    b: &mut [u8],
+) -> Stepped
+    ensures { λ r. ⌜ Steps (machine state (code (now (opcodes .entry)) (now (arguments .entry)) (now (public .entry)) (now (secret .entry)) (now (digests .entry)))
+        (memory (now («op_stack» .entry)) (now (origins .entry)) (now (destinations .entry)) (now (addresses .entry)) (now (values .entry)) (now (output .entry)))) (now (b .entry)) r
+        (memory (now («op_stack» .exit)) (now (origins .exit)) (now (destinations .exit)) (now (addresses .exit)) (now (values .exit)) (now (output .exit))) (now (b .exit)) ⌝ }
 {
-    let n = limits::limits(
+    let shape = check_buffer(b.len());
+    let fault_number = check_machine(
         state,
-        effect,
+        opcodes,
+        arguments,
+        public,
+        secret,
+        digests,
         op_stack,
         origins,
         destinations,
@@ -53,27 +45,29 @@ pub fn settle(
         values,
         output,
     );
+    let n = first(shape, fault_number);
     if n == 0 {
-        let next = perform::perform(
+        advance(
+            true,
             state,
-            effect,
-            pointer,
-            sponge,
+            opcodes,
+            arguments,
+            public,
+            secret,
+            digests,
             op_stack,
             origins,
             destinations,
             addresses,
             values,
             output,
-        );
-        Moved {
-            answer: Answer::Took,
-            state: next,
-        }
+            b,
+        )
     } else {
-        Moved {
-            answer: Answer::Refused(limit(n)),
+        Stepped {
+            answer: Answer::Refused(fault(n)),
             state: state,
+            bytes: 0,
         }
     }
 }

@@ -1,9 +1,9 @@
--- `vm::step::settle` meets its contract. Assumes nothing.
+-- `vm::settle::settle` meets its contract. Assumes nothing.
 use borrow.Author.Needs.{needs}
 use mathlib.Core.Path.{sym, _∙_}
-use Rattle.vm.proofs.StepLaws.{noCode, limit-number, settled-took, settled-kept}
-use Rattle.vm.proofs.step.settle.Statement.{statement}
-use Rattle.vm.proofs.step.settle.Tie as tie
+use Rattle.vm.proofs.SettleLaws.{noCode, limit-number, settled-took, settled-kept}
+use Rattle.vm.proofs.settle.settle.Statement.{statement}
+use Rattle.vm.proofs.settle.settle.Tie as tie
 
 limits-requires : tie.Need-limits-requires
 limits-requires c κs = search needs

@@ -1,9 +1,9 @@
--- `vm::step::limit` meets its contract. Assumes nothing.
+-- `vm::settle::limit` meets its contract. Assumes nothing.
 use mathlib.Core.Path.{_≡_}
 use Rattle.machine.specs.Refusal.{refusalOf}
-use Rattle.vm.proofs.StepLaws.{last-limit}
-use Rattle.vm.proofs.step.limit.Statement.{statement}
-use Rattle.vm.proofs.step.limit.Tie as tie
+use Rattle.vm.proofs.SettleLaws.{last-limit}
+use Rattle.vm.proofs.settle.limit.Statement.{statement}
+use Rattle.vm.proofs.settle.limit.Tie as tie
 
 returns : tie.Need-returns
 unfolding refusalOf
