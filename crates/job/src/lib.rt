@@ -1,0 +1,2 @@
+// The parts of the program runjob that are proved: reading a job file, writing the lines that it prints.
+pub mod listing;
