@@ -1,14 +1,17 @@
 -- Laws of numbers in bytes and of the records' frame. Assumes nothing.
-use mathlib.Core.Path.{_≡_}
-use mathlib.Core.List.{List}
-use Prim.Native.Nat.{ℕ, suc, _+_, _-_, _*_, _^_, _≤_, _<_}
+use mathlib.Core.Path.{_≡_, refl, _∙_}
+use mathlib.Core.List.{List, [], _∷_}
+use mathlib.Core.Bool.{Bool, true, false}
+use Prim.Native.Nat.{ℕ, suc, _+_, _-_, _*_, _^_, _≤_, _<_, zero}
 use native.Mathlib.Omega.{arith}
 use native.Mathlib.Nat.{pow-succ', pow-le-pow-right}
-use borrow.Author.Tests.{lt-ltb, le-ltb, eq-eqb, ne-eqb}
+use borrow.Author.Tests.{eqb-true, eqb-false, ltb-false, lt-ltb, le-ltb, eq-eqb, ne-eqb}
 use lib.ListN.{length, getD, take, drop, length-drop}
-use lib.Seq.{drop-cons, drop-drop}
+use lib.Dec.{eqb, ltb}
+use lib.Seq.{drop-cons, drop-drop, take-take}
+use Rattle.machine.specs.Choice.{cond}
 use Rattle.machine.specs.Bytes.{numberOf}
-use Rattle.job.specs.Frame.{kindIn, wholeBy}
+use Rattle.job.specs.Frame.{sizeBy, kindIn, wholeBy}
 
 -- ---- numbers
 
@@ -71,3 +74,62 @@ unfolding wholeBy
 whole-is b n at z e h =
     let l : n + 2 ≤ length (drop at b) = rw (length-drop at b) h in
     rw (ne-eqb n 0 z, eq-eqb (numberOf (take 2 (drop at b))) n e, le-ltb (length (drop at b)) (n + 2) l)
+
+-- ---- the size of a record by its kind
+
+pub size-short : (lengths : ℕ → ℕ) (b : List ℕ) (at : ℕ) → length b - at < 4 → 0 ≡ sizeBy lengths (drop at b)
+unfolding sizeBy
+size-short lengths b at h =
+    let l : length (drop at b) < 4 = rw (length-drop at b) h in
+    rw (lt-ltb (length (drop at b)) 4 l)
+
+pub size-is : (lengths : ℕ → ℕ) (b : List ℕ) (at k n r : ℕ) → 4 ≤ length b - at → k ≡ kindIn (drop at b) → n ≡ lengths k → r ≡ wholeBy n (drop at b) → r ≡ sizeBy lengths (drop at b)
+unfolding sizeBy
+size-is lengths b at k n r h e f g =
+    let l : 4 ≤ length (drop at b) = rw (length-drop at b) h in
+    rw (le-ltb (length (drop at b)) 4 l, ← e, ← f) g
+
+-- what is known of a whole record at the start of b
+pub record Whole (lengths : ℕ → ℕ) (b : List ℕ) : Type 0 where
+  pub long : 4 ≤ length b
+  pub known : 0 < lengths (kindIn b)
+  pub field : numberOf (take 2 b) ≡ lengths (kindIn b)
+  pub size : sizeBy lengths b ≡ lengths (kindIn b) + 2
+  pub fits : lengths (kindIn b) + 2 ≤ length b
+
+above : (n : ℕ) → (n ≡ 0 → ⊥) → 0 < n
+above n h = omega arith
+
+pub size-whole : (lengths : ℕ → ℕ) (b : List ℕ) → 0 < sizeBy lengths b → Whole lengths b
+unfolding sizeBy wholeBy
+size-whole lengths b h =
+    go (ltb (length b) 4) (eqb (lengths (kindIn b)) 0) (eqb (numberOf (take 2 b)) (lengths (kindIn b))) (ltb (length b) (lengths (kindIn b) + 2)) refl refl refl refl h
+  where
+    k : ℕ
+    k = lengths (kindIn b)
+
+    go : (t u v w : Bool) → ltb (length b) 4 ≡ t → eqb k 0 ≡ u → eqb (numberOf (take 2 b)) k ≡ v → ltb (length b) (k + 2) ≡ w →
+        0 < cond t 0 (cond u 0 (cond v (cond w 0 (k + 2)) 0)) → Whole lengths b
+    go true u v w e f g i j = absurd (omega arith)
+    go false true v w e f g i j = absurd (omega arith)
+    go false false false w e f g i j = absurd (omega arith)
+    go false false true true e f g i j = absurd (omega arith)
+    go false false true false e f g i j =
+        record {
+          long = ltb-false (length b) 4 e;
+          known = above k (eqb-false k 0 f);
+          field = eqb-true (numberOf (take 2 b)) k g;
+          size = rw (e, f, g, i);
+          fits = ltb-false (length b) (k + 2) i;
+        }
+
+-- ---- parts of parts
+
+pub part-of : (m j n : ℕ) (l : List ℕ) → j + m ≤ n → take m (drop j (take n l)) ≡ take m (drop j l)
+part-of m zero n l h = take-take m n l (omega arith)
+part-of m (suc j) zero l h = absurd (omega arith)
+part-of m (suc j) (suc n) [] h = refl
+part-of m (suc j) (suc n) (x ∷ l) h = part-of m j n l (omega arith)
+
+pub part-at : (m j n at : ℕ) (l : List ℕ) → j + m ≤ n → take m (drop j (take n (drop at l))) ≡ take m (drop (at + j) l)
+part-at m j n at l h = part-of m j n (drop at l) h ∙ rw (drop-drop j at l)

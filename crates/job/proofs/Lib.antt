@@ -1,3 +1,4 @@
 -- The laws that the proofs cite.
 pub mod FrameLaws
 pub mod ListingLaws
+pub mod LogLinesLaws

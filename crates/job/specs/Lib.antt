@@ -1,3 +1,4 @@
 -- What the contracts cite.
 pub mod Frame
 pub mod Listing
+pub mod LogLines

@@ -1,3 +1,4 @@
 // The parts of the program runjob that are proved: reading a job file, writing the lines that it prints.
 pub mod frame;
 pub mod listing;
+pub mod log_lines;
