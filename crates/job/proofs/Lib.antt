@@ -1,4 +1,5 @@
 -- The laws that the proofs cite.
 pub mod FrameLaws
 pub mod ListingLaws
+pub mod JobFileLaws
 pub mod LogLinesLaws

@@ -60,8 +60,11 @@ text-more s i h = rw (add-one i) (sym (take-suc s i 0 h))
 pub put-none : (b : List ℕ) (at : ℕ) → Put b b at [] 0 at
 put-none b at = record { is = logged-none b at; end = omega arith; few = omega arith }
 
+pub put-at : (b : List ℕ) (at x next : ℕ) → at < length b → next ≡ at + 1 → Put b (set b at x) at (x ∷ []) 1 next
+put-at b at x next h e = record { is = store-one b at x h; end = e; few = omega arith }
+
 pub put-one : (b : List ℕ) (at x : ℕ) → at < length b → Put b (set b at x) at (x ∷ []) 1 (at + 1)
-put-one b at x h = record { is = store-one b at x h; end = refl; few = omega arith }
+put-one b at x h = put-at b at x (at + 1) h refl
 
 pub put-all : {b b2 s : List ℕ} {at i next : ℕ} → i ≡ length s → Put b b2 at (take i s) i next → Put b b2 at s (length s) next
 put-all {b} {b2} {s} {at} {i} {next} e p =

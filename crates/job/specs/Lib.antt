@@ -1,4 +1,5 @@
 -- What the contracts cite.
 pub mod Frame
+pub mod JobFile
 pub mod Listing
 pub mod LogLines
