@@ -7,14 +7,18 @@ use native.Mathlib.Omega.{arith}
 use native.Mathlib.Nat.{mul-le-mul-left, add-zero}
 use native.Mathlib.Numerals.{add-one}
 use borrow.Author.Tests.{eqb-true, eqb-false, eq-eqb, ne-eqb}
-use lib.ListN.{length, take, drop, length-drop, length-append, drop-of-length-le}
+use lib.ListN.{length, take, drop, length-drop, length-append, drop-of-length-le, getD}
 use lib.Seq.{drop-drop}
 use lib.Dec.{eqb}
 use Rattle.machine.specs.Choice.{cond}
+use Rattle.machine.proofs.Choice.{first-nil, above-nil, differ-nil}
+use Rattle.machine.proofs.Logged.{logged-front, logged-none}
 use Rattle.machine.specs.Bytes.{numberOf}
 use Rattle.job.specs.Frame.{kindIn, sizeBy}
 use Rattle.job.specs.Listing.{Put}
-use Rattle.job.specs.JobFile.{lengthIn, pieceKind, pieceSize, Piece, pieceIn, piecesIn, piecesOf, countOf, numbersIn, column, Inside, Wanted, Filled}
+use Rattle.job.specs.JobFile.{lengthIn, pieceKind, pieceSize, Piece, pieceIn, piecesIn, piecesOf, countOf, numbersIn, column, faultOf, Job, goodJob, brokenJob, jobOf, Inside, Wanted, Filled}
+use Rattle.job.specs.declared.job_file.JobFile.{JobFile}
+use Rattle.job.specs.JobFileView.{Lent, brokenFile, Says}
 use Rattle.job.proofs.FrameLaws.{size-whole, part-of}
 use Rattle.job.proofs.ListingLaws.{put-none, put-more, put-as}
 
@@ -242,3 +246,146 @@ module _ (b o : List ℕ) (k i n m at q s d : ℕ) (wanted : Wanted b o k i n m)
         put = put-as x refl (omega (arith, x .end));
         rest = append-assoc (w .words) ns _ ∙ ap (λ (u : List ℕ). w .words ++ u) (sym column-turn) ∙ w .rest;
       }
+
+-- ---- a file without a fault
+
+-- how many records of a kind b can have
+count-fits : (f : ℕ) (b : List ℕ) (k : ℕ) → (k ≡ 0 → ⊥) → countOf k (piecesIn f b) * (lengthIn k + 2) ≤ length b
+unfolding piecesIn countOf pieceIn
+count-fits zero b k z = omega arith
+count-fits (suc f) [] k z = omega arith
+count-fits (suc f) (x ∷ b) k z = go (eqb (pieceKind s) k) refl (count-fits f (drop (pieceSize s) s) k z)
+  where
+    s : List ℕ
+    s = x ∷ b
+
+    go : (t : Bool) → eqb (pieceKind s) k ≡ t → countOf k (piecesIn f (drop (pieceSize s) s)) * (lengthIn k + 2) ≤ length (drop (pieceSize s) s) →
+        (cond t 1 0 + countOf k (piecesIn f (drop (pieceSize s) s))) * (lengthIn k + 2) ≤ length s
+    go true e h =
+        let g = kind-size s k (eqb-true (pieceKind s) k e) z in
+        omega (arith, size-fits s, length-drop (pieceSize s) s)
+    go false e h = omega (arith, length-drop (pieceSize s) s)
+
+pub count-room : (b : List ℕ) (k : ℕ) → (k ≡ 0 → ⊥) → countOf k (piecesOf b) * (lengthIn k + 2) ≤ length b
+unfolding piecesOf
+count-room b k z = count-fits (length b) b k z
+
+pub column-length : (k i n m : ℕ) (qs : List Piece) → length (column k i n m qs) ≡ m * countOf k qs
+unfolding column countOf
+column-length k i n m [] = omega arith
+column-length k i n m (q ∷ qs) = length-append (numbersIn n (cond (eqb (q .kind) k) m 0) (drop i (q .fields))) _ ∙ go (eqb (q .kind) k) (column-length k i n m qs)
+  where
+    go : (t : Bool) → length (column k i n m qs) ≡ m * countOf k qs → length (numbersIn n (cond t m 0) (drop i (q .fields))) + length (column k i n m qs) ≡ m * (cond t 1 0 + countOf k qs)
+    go true h = rw (numbers-length n m (drop i (q .fields))) (omega arith)
+    go false h = rw (numbers-length n 0 (drop i (q .fields))) (omega arith)
+
+pub record Sound (b : List ℕ) : Type 0 where
+  pub short : length b ≤ 65536
+  pub digest : countOf 11 (piecesOf b) ≡ 1
+  pub slots : countOf 12 (piecesOf b) ≤ 1024
+  pub budgets : countOf 17 (piecesOf b) ≤ 1
+
+pub fault-none : (b : List ℕ) → faultOf b ≡ 0 → Sound b
+unfolding faultOf
+fault-none b h =
+    let a = first-nil _ _ h in
+    let c = first-nil _ _ (a .1) in
+    let d = first-nil _ _ (c .1) in
+    let e = first-nil _ _ (d .1) in
+    let f = first-nil _ _ (e .1) in
+    record {
+      short = above-nil _ 65536 50 (omega arith) (a .0);
+      digest = differ-nil _ 1 50 (omega arith) (d .0);
+      slots = above-nil _ 1024 50 (omega arith) (e .0);
+      budgets = above-nil _ 1 50 (omega arith) (f .0);
+    }
+
+pub wanted : (b o : List ℕ) (k i n m : ℕ) → faultOf b ≡ 0 → n ≤ 8 → i + n * m + 2 ≤ lengthIn k → m * countOf k (piecesOf b) ≤ length o → Wanted b o k i n m
+wanted b o k i n m h l w r = record { short = fault-none b h .short; narrow = l; within = w; room = rw (column-length k i n m (piecesOf b)) r }
+
+-- all of a slice is filled
+pub filled-all : (b b2 ws : List ℕ) (n : ℕ) → Filled b b2 ws n → length b ≤ length ws → b2 ≡ ws
+filled-all b b2 ws n f h = f .is ∙ logged-front b ws ∙ rw (drop-of-length-le b {i = length ws} h) (append-nil ws)
+
+-- one word, or what stood there
+pub filled-one : (x : ℕ) (b2 ws : List ℕ) (n : ℕ) → Filled (x ∷ []) b2 ws n → length ws ≤ 1 → getD b2 0 0 ≡ getD ws 0 x
+filled-one x b2 [] n f h = rw (f .is ∙ logged-front (x ∷ []) [])
+filled-one x b2 (y ∷ ws) n f h = rw (f .is ∙ logged-front (x ∷ []) (y ∷ ws))
+
+-- the columns that the reader wants
+module _ (b o : List ℕ) (h : faultOf b ≡ 0) where
+  pub wanted-digest : length o ≡ 5 → Wanted b o 11 0 8 5
+  unfolding lengthIn
+  wanted-digest l = wanted b o 11 0 8 5 h (omega arith) (omega arith) (omega (arith, fault-none b h .digest))
+
+  pub wanted-opcodes : 1024 ≤ length o → Wanted b o 12 0 2 1
+  unfolding lengthIn
+  wanted-opcodes l = wanted b o 12 0 2 1 h (omega arith) (omega arith) (omega (arith, fault-none b h .slots))
+
+  pub wanted-arguments : 1024 ≤ length o → Wanted b o 12 2 8 1
+  unfolding lengthIn
+  wanted-arguments l = wanted b o 12 2 8 1 h (omega arith) (omega arith) (omega (arith, fault-none b h .slots))
+
+  pub wanted-public : 5461 ≤ length o → Wanted b o 13 0 8 1
+  unfolding lengthIn
+  wanted-public l = wanted b o 13 0 8 1 h (omega arith) (omega arith) (omega (arith, fault-none b h .short, count-room b 13 (λ z. omega arith)))
+
+  pub wanted-secret : 5461 ≤ length o → Wanted b o 14 0 8 1
+  unfolding lengthIn
+  wanted-secret l = wanted b o 14 0 8 1 h (omega arith) (omega arith) (omega (arith, fault-none b h .short, count-room b 14 (λ z. omega arith)))
+
+  pub wanted-digests : 7445 ≤ length o → Wanted b o 15 0 8 5
+  unfolding lengthIn
+  wanted-digests l = wanted b o 15 0 8 5 h (omega arith) (omega arith) (omega (arith, fault-none b h .short, count-room b 15 (λ z. omega arith)))
+
+  pub wanted-addresses : 3276 ≤ length o → Wanted b o 16 0 8 1
+  unfolding lengthIn
+  wanted-addresses l = wanted b o 16 0 8 1 h (omega arith) (omega arith) (omega (arith, fault-none b h .short, count-room b 16 (λ z. omega arith)))
+
+  pub wanted-values : 3276 ≤ length o → Wanted b o 16 8 8 1
+  unfolding lengthIn
+  wanted-values l = wanted b o 16 8 8 1 h (omega arith) (omega arith) (omega (arith, fault-none b h .short, count-room b 16 (λ z. omega arith)))
+
+  pub wanted-budget : length o ≡ 1 → Wanted b o 17 0 4 1
+  unfolding lengthIn
+  wanted-budget l = wanted b o 17 0 4 1 h (omega arith) (omega arith) (omega (arith, fault-none b h .budgets))
+
+pub filled-count : {b b2 ws : List ℕ} {n m : ℕ} → Filled b b2 ws n → m ≡ length ws → Filled b b2 ws m
+filled-count f e = record { is = f .is; count = e }
+
+-- two columns with one number of each record are as long
+pub column-same : (k i n j l : ℕ) (qs : List Piece) → length (column k i n 1 qs) ≡ length (column k j l 1 qs)
+column-same k i n j l qs = column-length k i n 1 qs ∙ sym (column-length k j l 1 qs)
+
+pub digest-long : (b : List ℕ) → faultOf b ≡ 0 → 5 ≤ length (column 11 0 8 5 (piecesOf b))
+digest-long b h = rw (column-length 11 0 8 5 (piecesOf b)) (omega (arith, fault-none b h .digest))
+
+pub budget-few : (b : List ℕ) → faultOf b ≡ 0 → length (column 17 0 4 1 (piecesOf b)) ≤ 1
+budget-few b h = rw (column-length 17 0 4 1 (piecesOf b)) (omega (arith, fault-none b h .budgets))
+
+-- ---- the job
+
+pub job-good : (b : List ℕ) → faultOf b ≡ 0 → jobOf b ≡ goodJob (piecesOf b)
+unfolding jobOf
+job-good b h = rw (eq-eqb (faultOf b) 0 h)
+
+pub job-broken : (b : List ℕ) (n : ℕ) → n ≡ faultOf b → (n ≡ 0 → ⊥) → jobOf b ≡ brokenJob n
+unfolding jobOf
+job-broken b n e z = rw (← e, ne-eqb n 0 z)
+
+pub says-broken : {j : Job} {n : ℕ} {r : JobFile} {l : Lent} → j ≡ brokenJob n → r ≡ brokenFile n → Says j r l l
+says-broken {j} {n} {r} {l} e f = rw (e, f) (record {
+  number = refl;
+  digest = refl;
+  opcodes = nothing (l .opcodes);
+  arguments = nothing (l .arguments);
+  public = nothing (l .public);
+  secret = nothing (l .secret);
+  digests = nothing (l .digests);
+  addresses = nothing (l .addresses);
+  values = nothing (l .values);
+  budget = refl;
+})
+  where
+    nothing : (b : List ℕ) → Filled b b [] 0
+    nothing b = record { is = logged-none b 0; count = refl }

@@ -1,5 +1,6 @@
 -- What the contracts cite.
 pub mod Frame
 pub mod JobFile
+pub mod JobFileView
 pub mod Listing
 pub mod LogLines

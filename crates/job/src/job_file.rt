@@ -1,12 +1,13 @@
 // A job file read: what runjob is given on its standard input. The file is gone through once for each kind of number in it.
 ghost use mathlib.Core.Path.{_≡_};
 ghost use Prim.Native.Nat.{_+_, _*_, _≤_, _<_};
-ghost use lib.ListN.{length, drop};
+ghost use lib.ListN.{length, getD, drop};
 ghost use lib.Dec.{eqb};
 ghost use Rattle.machine.specs.Choice.{cond};
 ghost use Rattle.job.specs.Frame.{sizeBy};
 ghost use Rattle.job.specs.Listing.{Put};
-ghost use Rattle.job.specs.JobFile.{lengthIn, pieceKind, pieceSize, piecesOf, countOf, numbersIn, column as columnOf, faultOf, Inside, Wanted, Filled};
+ghost use Rattle.job.specs.JobFileView.{lent, Room, brokenFile, Says};
+ghost use Rattle.job.specs.JobFile.{lengthIn, pieceKind, pieceSize, piecesOf, countOf, numbersIn, column as columnOf, faultOf, jobOf, Inside, Wanted, Filled};
 use crate::frame::kind_at;
 use crate::frame::number_at;
 use crate::frame::whole_at;
@@ -131,4 +132,111 @@ fn column(file: &[u8], kind: u64, from: usize, n: usize, m: usize, out: &mut [u6
         at += p.size;
     }
     to
+}
+
+// ---- the job
+
+// What a file says beside the words in the slices: its number, 0 or 50, and how many words there are of each kind.
+pub struct JobFile {
+    pub number: u64,
+    pub digest: [u64; 5],
+    pub slots: usize,
+    pub publics: usize,
+    pub secrets: usize,
+    // in words, five a digest
+    pub digests: usize,
+    pub cells: usize,
+    pub budget: u64,
+}
+
+fn digest_of(file: &[u8]) -> [u64; 5]
+    requires { ⌜ faultOf (now file) ≡ 0 ⌝ }
+    ensures { λ r. ⌜ r ≡ columnOf 11 0 8 5 (piecesOf (now (file .entry))) ⌝ }
+{
+    let mut words = [0u64; 5];
+    column(file, 11, 0, 8, 5, &mut words);
+    words
+}
+
+// The budget's record overwrites what an absent one means.
+fn budget_of(file: &[u8]) -> u64
+    requires { ⌜ faultOf (now file) ≡ 0 ⌝ }
+    ensures { λ r. ⌜ r ≡ getD (columnOf 17 0 4 1 (piecesOf (now (file .entry)))) 0 1000000 ⌝ }
+{
+    let mut words = [1000000u64; 1];
+    column(file, 17, 0, 4, 1, &mut words);
+    words[0]
+}
+
+// Both words of every slot.
+fn slots_of(file: &[u8], opcodes: &mut [u64], arguments: &mut [u64]) -> usize
+    requires { ⌜ (faultOf (now file) ≡ 0) × (1024 ≤ length (now opcodes)) × (1024 ≤ length (now arguments)) ⌝ }
+    ensures { λ r. ⌜ Filled (now (opcodes .entry)) (now (opcodes .exit)) (columnOf 12 0 2 1 (piecesOf (now (file .entry)))) r ⌝ }
+    ensures { λ r. ⌜ Filled (now (arguments .entry)) (now (arguments .exit)) (columnOf 12 2 8 1 (piecesOf (now (file .entry)))) r ⌝ }
+{
+    column(file, 12, 0, 2, 1, opcodes);
+    column(file, 12, 2, 8, 1, arguments)
+}
+
+// Both words of every RAM cell.
+fn cells_of(file: &[u8], addresses: &mut [u64], values: &mut [u64]) -> usize
+    requires { ⌜ (faultOf (now file) ≡ 0) × (3276 ≤ length (now addresses)) × (3276 ≤ length (now values)) ⌝ }
+    ensures { λ r. ⌜ Filled (now (addresses .entry)) (now (addresses .exit)) (columnOf 16 0 8 1 (piecesOf (now (file .entry)))) r ⌝ }
+    ensures { λ r. ⌜ Filled (now (values .entry)) (now (values .exit)) (columnOf 16 8 8 1 (piecesOf (now (file .entry)))) r ⌝ }
+{
+    column(file, 16, 0, 8, 1, addresses);
+    column(file, 16, 8, 8, 1, values)
+}
+
+fn broken(number: u64) -> JobFile
+    ensures { λ r. ⌜ r ≡ brokenFile number ⌝ }
+{
+    JobFile {
+        number: number,
+        digest: [0u64; 5],
+        slots: 0,
+        publics: 0,
+        secrets: 0,
+        digests: 0,
+        cells: 0,
+        budget: 0,
+    }
+}
+
+// The job that a file says. The slices keep what they held behind its words; a broken file leaves them as they were.
+pub fn read_job(
+    file: &[u8],
+    opcodes: &mut [u64],
+    arguments: &mut [u64],
+    public: &mut [u64],
+    secret: &mut [u64],
+    digests: &mut [u64],
+    addresses: &mut [u64],
+    values: &mut [u64],
+) -> JobFile
+    requires { ⌜ Room (lent (now opcodes) (now arguments) (now public) (now secret) (now digests) (now addresses) (now values)) ⌝ }
+    ensures { λ r. ⌜ Says (jobOf (now (file .entry))) r
+        (lent (now (opcodes .entry)) (now (arguments .entry)) (now (public .entry)) (now (secret .entry)) (now (digests .entry)) (now (addresses .entry)) (now (values .entry)))
+        (lent (now (opcodes .exit)) (now (arguments .exit)) (now (public .exit)) (now (secret .exit)) (now (digests .exit)) (now (addresses .exit)) (now (values .exit))) ⌝ }
+{
+    let number = fault(file);
+    if number != 0 {
+        return broken(number);
+    }
+    let digest = digest_of(file);
+    let slots = slots_of(file, opcodes, arguments);
+    let publics = column(file, 13, 0, 8, 1, public);
+    let secrets = column(file, 14, 0, 8, 1, secret);
+    let words = column(file, 15, 0, 8, 5, digests);
+    let cells = cells_of(file, addresses, values);
+    JobFile {
+        number: 0,
+        digest: digest,
+        slots: slots,
+        publics: publics,
+        secrets: secrets,
+        digests: words,
+        cells: cells,
+        budget: budget_of(file),
+    }
 }
