@@ -1,7 +1,7 @@
 -- Laws of the lines' texts. Assumes nothing.
 use mathlib.Core.Path.{_≡_, refl, sym, ap, _∙_}
 use mathlib.Core.Bool.{Bool, true, false}
-use mathlib.Core.List.{List, [], _∷_, _++_}
+use mathlib.Core.List.{List, [], _∷_, _++_, append-assoc, append-nil}
 use Prim.Native.Nat.{ℕ, zero, suc, _+_, _/_, _%_, _^_, _≤_, _<_}
 use native.Mathlib.Omega.{arith}
 use native.Mathlib.Nat.{pow-succ'}
@@ -12,7 +12,8 @@ use lib.Seq.{take-suc, take-length}
 use lib.Dec.{ltb}
 use Rattle.machine.specs.Choice.{cond}
 use Rattle.machine.proofs.Logged.{joined, logged-none, store-one}
-use Rattle.job.specs.Listing.{digitsOf, decimalOf, Put}
+use Rattle.job.specs.Listing.{digitsOf, decimalOf, outLine, Put}
+use Rattle.job.specs.Printed.{outLines}
 
 -- ---- digits
 
@@ -84,3 +85,19 @@ put-more {b} {b1} {b2} {r} {s} {u} {at} {i} {j} {m} {n} {k} h p q g e =
       end = omega (arith, p .end, q .end);
       few = omega (arith, p .few, q .few);
     }
+
+-- ---- the output's lines
+
+out-append : (s t : List ℕ) → outLines (s ++ t) ≡ outLines s ++ outLines t
+unfolding outLines
+out-append [] t = refl
+out-append (w ∷ s) t = rw (out-append s t) (sym (append-assoc (outLine w) (outLines s) (outLines t)))
+
+pub out-none : (s : List ℕ) → [] ≡ outLines (take 0 s)
+unfolding outLines
+out-none s = refl
+
+-- one more
+pub out-more : (s : List ℕ) (i : ℕ) → i < length s → outLines (take i s) ++ outLine (getD s i 0) ≡ outLines (take (i + 1) s)
+unfolding outLines
+out-more s i h = sym (ap outLines (sym (text-more s i h)) ∙ out-append (take i s) (getD s i 0 ∷ []) ∙ ap (λ (u : List ℕ). outLines (take i s) ++ u) (append-nil _))

@@ -4,3 +4,4 @@ pub mod JobFile
 pub mod JobFileView
 pub mod Listing
 pub mod LogLines
+pub mod Printed

@@ -1,9 +1,10 @@
 // The lines that runjob prints. Each writer puts its text behind place `at` and gives the place behind it.
 ghost use mathlib.Core.Path.{_≡_};
 ghost use mathlib.Core.List.{[] as Nil, _∷_, _++_};
-ghost use Prim.Native.Nat.{_+_, _%_, _≤_, _<_};
+ghost use Prim.Native.Nat.{_+_, _*_, _%_, _≤_, _<_};
 ghost use lib.ListN.{length};
 ghost use Rattle.job.specs.Listing.{decimalOf, fieldOf, directionText, stackLine, outLine, countsOf, haltedLine, spentLine, refusedLine, Put};
+ghost use Rattle.job.specs.Printed.{outLines};
 
 // ---- texts and numbers
 
@@ -129,4 +130,18 @@ pub fn refused_line(
     let first = put_text(b, at, b"end refused ");
     let second = put_field(b, first, number, 32);
     put_counts(b, second, steps, pointer, depth)
+}
+
+// An out line for each word.
+pub fn out_lines(b: &mut [u8], at: usize, words: &[u64]) -> usize
+    requires { ⌜ at + 25 * length (now words) ≤ length (now b) ⌝ }
+    ensures { λ r. ⌜ Put (now (b .entry)) (now (b .exit)) at (outLines (now (words .entry))) (25 * length (now (words .entry))) r ⌝ }
+{
+    let mut next = at;
+    let mut i = 0;
+    while i < words.len() {
+        next = out_line(b, next, words[i]);
+        i += 1;
+    }
+    next
 }
