@@ -89,6 +89,12 @@ size-is lengths b at k n r h e f g =
     let l : 4 ≤ length (drop at b) = rw (length-drop at b) h in
     rw (le-ltb (length (drop at b)) 4 l, ← e, ← f) g
 
+pub size-from : (lengths : ℕ → ℕ) (b : List ℕ) (k : ℕ) → kindIn b ≡ k → 0 < lengths k → numberOf (take 2 b) ≡ lengths k → 4 ≤ length b → lengths k + 2 ≤ length b → sizeBy lengths b ≡ lengths k + 2
+unfolding sizeBy wholeBy
+size-from lengths b k e z f h l =
+    let n : lengths k ≡ 0 → ⊥ = λ q. omega arith in
+    rw (le-ltb (length b) 4 h, e, ne-eqb (lengths k) 0 n, eq-eqb (numberOf (take 2 b)) (lengths k) f, le-ltb (length b) (lengths k + 2) l)
+
 -- what is known of a whole record at the start of b
 pub record Whole (lengths : ℕ → ℕ) (b : List ℕ) : Type 0 where
   pub long : 4 ≤ length b

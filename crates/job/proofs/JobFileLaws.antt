@@ -11,7 +11,7 @@ use lib.ListN.{length, take, drop, length-drop, length-append, drop-of-length-le
 use lib.Seq.{drop-drop}
 use lib.Dec.{eqb}
 use Rattle.machine.specs.Choice.{cond}
-use Rattle.machine.proofs.Choice.{first-nil, above-nil, differ-nil}
+use Rattle.machine.proofs.Choice.{first-zero, first-nil, above-not, above-nil, differ-not, differ-nil}
 use Rattle.machine.proofs.Logged.{logged-front, logged-none}
 use Rattle.machine.specs.Bytes.{numberOf}
 use Rattle.job.specs.Frame.{kindIn, sizeBy}
@@ -91,7 +91,7 @@ pieces-enough (suc f) (suc g) (x ∷ b) h k =
     let l = length-drop n (x ∷ b) in
     ap (λ (qs : List Piece). pieceIn (x ∷ b) ∷ qs) (pieces-enough f g (drop n (x ∷ b)) (omega arith) (omega arith))
 
-pieces-turn : (b : List ℕ) → 0 < length b → piecesOf b ≡ pieceIn b ∷ piecesOf (drop (pieceSize b) b)
+pub pieces-turn : (b : List ℕ) → 0 < length b → piecesOf b ≡ pieceIn b ∷ piecesOf (drop (pieceSize b) b)
 unfolding piecesOf piecesIn
 pieces-turn [] h = absurd (omega arith)
 pieces-turn (x ∷ b) h =
@@ -279,11 +279,14 @@ column-length k i n m (q ∷ qs) = length-append (numbersIn n (cond (eqb (q .kin
     go true h = rw (numbers-length n m (drop i (q .fields))) (omega arith)
     go false h = rw (numbers-length n 0 (drop i (q .fields))) (omega arith)
 
+-- what document 01 asks of a file
 pub record Sound (b : List ℕ) : Type 0 where
   pub short : length b ≤ 65536
+  pub start : pieceKind b ≡ 11
   pub digest : countOf 11 (piecesOf b) ≡ 1
   pub slots : countOf 12 (piecesOf b) ≤ 1024
   pub budgets : countOf 17 (piecesOf b) ≤ 1
+  pub whole : countOf 0 (piecesOf b) ≡ 0
 
 pub fault-none : (b : List ℕ) → faultOf b ≡ 0 → Sound b
 unfolding faultOf
@@ -295,10 +298,22 @@ fault-none b h =
     let f = first-nil _ _ (e .1) in
     record {
       short = above-nil _ 65536 50 (omega arith) (a .0);
+      start = differ-nil _ 11 50 (omega arith) (c .0);
       digest = differ-nil _ 1 50 (omega arith) (d .0);
       slots = above-nil _ 1024 50 (omega arith) (e .0);
       budgets = above-nil _ 1 50 (omega arith) (f .0);
+      whole = differ-nil _ 0 50 (omega arith) (f .1);
     }
+
+pub fault-sound : (b : List ℕ) → Sound b → faultOf b ≡ 0
+unfolding faultOf
+fault-sound b s =
+    first-zero _ _ (above-not _ 65536 50 (s .short))
+    ∙ first-zero _ _ (differ-not _ 11 50 (s .start))
+    ∙ first-zero _ _ (differ-not _ 1 50 (s .digest))
+    ∙ first-zero _ _ (above-not _ 1024 50 (s .slots))
+    ∙ first-zero _ _ (above-not _ 1 50 (s .budgets))
+    ∙ differ-not _ 0 50 (s .whole)
 
 pub wanted : (b o : List ℕ) (k i n m : ℕ) → faultOf b ≡ 0 → n ≤ 8 → i + n * m + 2 ≤ lengthIn k → m * countOf k (piecesOf b) ≤ length o → Wanted b o k i n m
 wanted b o k i n m h l w r = record { short = fault-none b h .short; narrow = l; within = w; room = rw (column-length k i n m (piecesOf b)) r }

@@ -3,3 +3,5 @@ pub mod FrameLaws
 pub mod ListingLaws
 pub mod JobFileLaws
 pub mod LogLinesLaws
+pub mod JobFiles
+pub mod Example

@@ -5,7 +5,7 @@ use Prim.Native.Nat.{ℕ, zero, suc, _+_, _*_, _<_, _≤_}
 use lib.ListN.{length, getD, take, drop}
 use lib.Dec.{eqb}
 use Rattle.machine.specs.Choice.{cond, firstOf, aboveOf, differOf}
-use Rattle.machine.specs.Bytes.{numberOf}
+use Rattle.machine.specs.Bytes.{bytesOf, numberOf}
 use Rattle.machine.specs.Logged.{logged}
 use Rattle.job.specs.Frame.{kindIn, sizeBy}
 
@@ -43,6 +43,14 @@ piecesIn (suc f) (x ∷ b) = pieceIn (x ∷ b) ∷ piecesIn f (drop (pieceSize (
 -- there are no more than bytes. Where one is cut short, of an unknown kind or of a length not its kind's, one of kind 0 ends the list
 unfoldable pub piecesOf : List ℕ → List Piece
 piecesOf b = piecesIn (length b) b
+
+-- how a file is written: length, kind, fields
+unfoldable pub fileRecord : ℕ → List ℕ → List ℕ
+fileRecord k fields = bytesOf 2 (lengthIn k) ++ bytesOf 2 k ++ fields
+
+unfoldable pub fileBytes : List Piece → List ℕ
+fileBytes [] = []
+fileBytes (q ∷ qs) = fileRecord (q .kind) (q .fields) ++ fileBytes qs
 
 -- how many are of kind k
 unfoldable pub countOf : ℕ → List Piece → ℕ

@@ -5,3 +5,4 @@ pub mod JobFileView
 pub mod Listing
 pub mod LogLines
 pub mod Printed
+pub mod Example
