@@ -90,3 +90,9 @@ cut-fields = refl
 pub cut-length : jobOf cutLength .number ≡ 50
 unfolding cutLength fileRecord lengthIn pieceKind pieceSize pieceIn piecesIn piecesOf countOf numbersIn column faultOf jobOf kindIn wholeBy sizeBy bytesOf numberOf firstOf aboveOf differOf
 cut-length = refl
+
+-- ---- the longest number
+
+pub twenty-digits : decimalOf 18446744073709551615 ≡ 49 ∷ 56 ∷ 52 ∷ 52 ∷ 54 ∷ 55 ∷ 52 ∷ 52 ∷ 48 ∷ 55 ∷ 51 ∷ 55 ∷ 48 ∷ 57 ∷ 53 ∷ 53 ∷ 49 ∷ 54 ∷ 49 ∷ 53 ∷ []
+unfolding decimalOf digitsOf
+twenty-digits = refl

@@ -203,7 +203,7 @@ columns-all {b} {o} {o2} {k} {i} {n} {m} {at} {to} h w =
     record { is = rw e at (w .put .is); count = rw (← e) (omega (arith, w .put .end)) }
 
 -- the record at place at, of q's kind and s bytes; d is how many numbers are wanted of it
-module _ (b o : List ℕ) (k i n m at q s d : ℕ) (wanted : Wanted b o k i n m) (is : q ≡ pieceKind (drop at b)) (size : s ≡ pieceSize (drop at b)) (many : d ≡ cond (eqb q k) m 0) (here : at < length b) where
+module _ {b o : List ℕ} {k i n m at q s d : ℕ} (wanted : Wanted b o k i n m) (is : q ≡ pieceKind (drop at b)) (size : s ≡ pieceSize (drop at b)) (many : d ≡ cond (eqb q k) m 0) (here : at < length b) where
   pub column-inside : Inside b (at + 4 + i) n d
   column-inside = record { narrow = wanted .narrow; inside = go (eqb q k) refl many }
     where

@@ -12,7 +12,7 @@ use Rattle.machine.specs.Choice.{cond, firstOf, aboveOf, differOf}
 use Rattle.machine.specs.Bytes.{bytesOf}
 use Rattle.machine.proofs.Bytes.{number-back}
 use Rattle.job.specs.Frame.{kindIn, sizeBy}
-use Rattle.job.specs.JobFile.{lengthIn, pieceKind, pieceSize, Piece, pieceIn, piecesIn, piecesOf, fileRecord, fileBytes, faultOf, goodJob, jobOf}
+use Rattle.job.specs.JobFile.{lengthIn, pieceKind, pieceSize, Piece, pieceIn, piecesIn, piecesOf, fileRecord, fileBytes, countOf, faultOf, goodJob, jobOf}
 use Rattle.job.proofs.FrameLaws.{size-from}
 use Rattle.job.proofs.JobFileLaws.{length-few, pieces-turn, Sound, fault-none, fault-sound, job-good, job-broken}
 
@@ -58,6 +58,13 @@ other-job b n = go (faultOf b) (fault-fifty b) refl
     go : (f : ℕ) → Fifty f → faultOf b ≡ f → jobOf b .number ≡ 50
     go f no e = absurd (n (fault-none b e))
     go f yes e = ap (λ j. j .number) (job-broken b 50 (sym e) (λ z. omega arith))
+
+-- more than 65,536 bytes, and more than 1,024 slots
+pub too-long : (b : List ℕ) → 65536 < length b → jobOf b .number ≡ 50
+too-long b h = other-job b (λ s. omega (arith, s .short))
+
+pub too-many : (b : List ℕ) → 1024 < countOf 12 (piecesOf b) → jobOf b .number ≡ 50
+too-many b h = other-job b (λ s. omega (arith, s .slots))
 
 -- ---- written and read back
 

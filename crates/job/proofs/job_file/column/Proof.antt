@@ -40,10 +40,9 @@ put-numbers-requires : tie.Need-put-numbers-requires Inv-loop μ-loop
 put-numbers-requires c κs =
     let l = c .before .before .before .before .loop in
     let k = c .before .before .before .before .before .before .before in
-    let a = k .args in
     let p = c .before .before .piece-at in
     let t = c .before .same in
-    (column-inside (now (a .file)) (now (a .out)) (a .kind) (a .from) (a .n) (a .m) (l .at) (p .result .kind) (p .result .size) (t .result) (k .pre) (p .ensures .0) (p .ensures .1) (t .ensures) (omega arith), omega (arith, l .inv .1, column-room (now (a .file)) (now (a .out)) (a .kind) (a .from) (a .n) (a .m) (l .at) (p .result .kind) (p .result .size) (t .result) (k .pre) (p .ensures .0) (p .ensures .1) (t .ensures) (omega arith) (l .inv .2)))
+    (column-inside (k .pre) (p .ensures .0) (p .ensures .1) (t .ensures) (omega arith), omega (arith, l .inv .1, column-room (k .pre) (p .ensures .0) (p .ensures .1) (t .ensures) (omega arith) (l .inv .2)))
 
 add-at : tie.Need-add-at Inv-loop μ-loop
 add-at c =
@@ -51,7 +50,6 @@ add-at c =
     let k = c .before .before .before .before .before .before .before .before .before .before .before in
     let a = k .args in
     let p = c .before .before .before .before .before .before .piece-at in
-    let t = c .before .before .before .before .before .same in
     let w = place-next (now (a .file)) (l .at) (p .result .size) (p .ensures .1) (omega arith) in
     omega (arith, w .1)
 
@@ -61,7 +59,6 @@ loop-less c =
     let k = c .before .before .before .before .before .before .before .before .before .before .before in
     let a = k .args in
     let p = c .before .before .before .before .before .before .piece-at in
-    let t = c .before .before .before .before .before .same in
     let w = place-next (now (a .file)) (l .at) (p .result .size) (p .ensures .1) (omega arith) in
     omega (arith, w .1)
 
@@ -73,7 +70,7 @@ loop-again c =
     let p = c .before .before .before .before .before .before .piece-at in
     let t = c .before .before .before .before .before .same in
     let w = place-next (now (a .file)) (l .at) (p .result .size) (p .ensures .1) (omega arith) in
-    (omega (arith, w .1), search needs, columns-more (now (a .file)) (now (a .out)) (a .kind) (a .from) (a .n) (a .m) (l .at) (p .result .kind) (p .result .size) (t .result) (k .pre) (p .ensures .0) (p .ensures .1) (t .ensures) (omega arith) (l .inv .2) (c .before .before .before .put-numbers .ensures))
+    (omega (arith, w .1), search needs, columns-more (k .pre) (p .ensures .0) (p .ensures .1) (t .ensures) (omega arith) (l .inv .2) (c .before .before .before .put-numbers .ensures))
 
 same-length : tie.Need-same-length Inv-loop μ-loop
 same-length c = search needs

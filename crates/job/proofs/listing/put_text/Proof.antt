@@ -33,7 +33,6 @@ loop-less c = search needs
 loop-again : tie.Need-loop-again Inv-loop μ-loop
 loop-again c =
     let l = c .before .before .before .before .before .before .loop in
-    let a = c .before .before .before .before .before .before .before .before .before .args in
     (omega arith, omega arith, put-more (omega arith) (l .inv .2) (c .before .before .put-byte .ensures) (text-more _ (l .i) (omega arith)) refl)
 
 same-length : tie.Need-same-length Inv-loop μ-loop
