@@ -8,7 +8,7 @@ use native.Mathlib.Nat.{mul-le-mul-left, add-zero}
 use native.Mathlib.Numerals.{add-one}
 use borrow.Author.Tests.{eqb-true, eqb-false, eq-eqb, ne-eqb}
 use lib.ListN.{length, take, drop, length-drop, length-append, drop-of-length-le, getD}
-use lib.Seq.{drop-drop}
+use lib.Seq.{drop-drop, take-at}
 use lib.Dec.{eqb}
 use Rattle.machine.specs.Choice.{cond}
 use Rattle.machine.proofs.Choice.{first-zero, first-nil, above-not, above-nil, differ-not, differ-nil}
@@ -317,6 +317,10 @@ fault-sound b s =
 
 pub wanted : (b o : List ℕ) (k i n m : ℕ) → faultOf b ≡ 0 → n ≤ 8 → i + n * m + 2 ≤ lengthIn k → m * countOf k (piecesOf b) ≤ length o → Wanted b o k i n m
 wanted b o k i n m h l w r = record { short = fault-none b h .short; narrow = l; within = w; room = rw (column-length k i n m (piecesOf b)) r }
+
+-- the words that are counted are those of the column
+pub filled-front : {b b2 ws : List ℕ} {n : ℕ} → Filled b b2 ws n → take n b2 ≡ ws
+filled-front {b} {b2} {ws} {n} f = ap (take n) (f .is ∙ logged-front b ws) ∙ take-at ws _ n (sym (f .count))
 
 -- all of a slice is filled
 pub filled-all : (b b2 ws : List ℕ) (n : ℕ) → Filled b b2 ws n → length b ≤ length ws → b2 ≡ ws

@@ -8,10 +8,10 @@ use native.Mathlib.Nat.{pow-succ'}
 use native.Mathlib.Numerals.{add-one}
 use borrow.Author.Tests.{lt-ltb, le-ltb}
 use lib.ListN.{length, getD, set, take, length-append}
-use lib.Seq.{take-suc, take-length}
+use lib.Seq.{take-suc, take-length, take-at}
 use lib.Dec.{ltb}
 use Rattle.machine.specs.Choice.{cond}
-use Rattle.machine.proofs.Logged.{joined, logged-none, store-one}
+use Rattle.machine.proofs.Logged.{logged-front, joined, logged-none, store-one}
 use Rattle.job.specs.Listing.{digitsOf, decimalOf, outLine, Put}
 use Rattle.job.specs.Printed.{outLines}
 
@@ -85,6 +85,12 @@ put-more {b} {b1} {b2} {r} {s} {u} {at} {i} {j} {m} {n} {k} h p q g e =
       end = omega (arith, p .end, q .end);
       few = omega (arith, p .few, q .few);
     }
+
+-- what stands in front of the next place is the text
+pub put-front : {b b2 s : List ℕ} {most next : ℕ} → Put b b2 0 s most next → take next b2 ≡ s
+put-front {b} {b2} {s} {most} {next} p =
+    let e : length s ≡ next = omega (arith, p .end) in
+    ap (take next) (p .is ∙ logged-front b s) ∙ take-at s _ next e
 
 -- ---- the output's lines
 
