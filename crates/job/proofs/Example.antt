@@ -21,8 +21,8 @@ use Rattle.machine.specs.Records.{callRecords, growing, shrinking, stackRecords
 use Rattle.machine.specs.Logged.{logged}
 use Rattle.job.specs.Frame.{kindIn, wholeBy, sizeBy}
 use Rattle.job.specs.JobFile.{Job, lengthIn, fileRecord, pieceKind, pieceSize, pieceIn, piecesIn, piecesOf, countOf, numbersIn, column, faultOf, jobOf}
-use Rattle.job.specs.Example.{exampleFile, exampleText, emptyFile, lateDigest, twoDigests, twoBudgets, unknownKind, logKind, otherLength, cutFields, cutLength}
-use Rattle.job.specs.Listing.{digitsOf, decimalOf, fieldOf, directionText, stackLine, outLine, countsOf, haltedLine}
+use Rattle.job.specs.Example.{digestRecord, exampleFile, exampleText, emptyFile, lateDigest, twoDigests, twoBudgets, unknownKind, logKind, otherLength, cutFields, cutLength}
+use Rattle.job.specs.Listing.{digitsOf, decimalOf, fieldOf, directionText, stackLine, outLine, countsOf, haltedLine, refusedLine}
 use Rattle.job.specs.LogLines.{lineOf, linesOf}
 use Rattle.job.specs.Printed.{outLines, endLine, recordsBy, runLines, jobLines, printedOf}
 
@@ -96,3 +96,15 @@ cut-length = refl
 pub twenty-digits : decimalOf 18446744073709551615 ≡ 49 ∷ 56 ∷ 52 ∷ 52 ∷ 54 ∷ 55 ∷ 52 ∷ 52 ∷ 48 ∷ 55 ∷ 51 ∷ 55 ∷ 48 ∷ 57 ∷ 53 ∷ 53 ∷ 49 ∷ 54 ∷ 49 ∷ 53 ∷ []
 unfolding decimalOf digitsOf
 twenty-digits = refl
+
+-- ---- end lines of refusals
+
+-- a file of a digest alone opens an empty program: "end refused 11 0 0 16"
+pub digest-alone : printedOf digestRecord ≡ 101 ∷ 110 ∷ 100 ∷ 32 ∷ 114 ∷ 101 ∷ 102 ∷ 117 ∷ 115 ∷ 101 ∷ 100 ∷ 32 ∷ 49 ∷ 49 ∷ 32 ∷ 48 ∷ 32 ∷ 48 ∷ 32 ∷ 49 ∷ 54 ∷ 10 ∷ []
+unfolding refusedLine jobLines runLines recordsBy endLine outLines lineOf linesOf digitsOf decimalOf fieldOf directionText stackLine outLine countsOf haltedLine logged callRecords growing shrinking stackRecords recordsOf outcomeBy stepsBy openedStack opened openOf code1 memory1 code2 opcodes3 arguments4 code34 openA appliedStack touched performed limitsOf settled effectOf decideOf addOf fromTop reversed writeIoOf haltOf pushOf topOf table decode sizeOf placeFrom find held cells1 cells2 cells5 twiceOf wordOf2 wordsOf zerosFrom firstOf aboveOf differOf fileRecord lengthIn pieceKind pieceSize pieceIn piecesIn piecesOf countOf numbersIn column faultOf jobOf kindIn wholeBy sizeBy bytesOf numberOf
+digest-alone = refl
+
+-- a broken file: "end refused 50 0 0 0"
+pub broken-file : printedOf emptyFile ≡ 101 ∷ 110 ∷ 100 ∷ 32 ∷ 114 ∷ 101 ∷ 102 ∷ 117 ∷ 115 ∷ 101 ∷ 100 ∷ 32 ∷ 53 ∷ 48 ∷ 32 ∷ 48 ∷ 32 ∷ 48 ∷ 32 ∷ 48 ∷ 10 ∷ []
+unfolding emptyFile jobLines refusedLine countsOf fieldOf decimalOf digitsOf fileRecord lengthIn pieceKind pieceSize pieceIn piecesIn piecesOf countOf numbersIn column faultOf jobOf kindIn wholeBy sizeBy bytesOf numberOf firstOf aboveOf differOf
+broken-file = refl
