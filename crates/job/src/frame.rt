@@ -1,6 +1,6 @@
 // Numbers in lent bytes, and the records' frame, which a log and a job file share.
 ghost use mathlib.Core.Path.{_≡_};
-ghost use Prim.Native.Nat.{_+_, _*_, _-_, _^_, _≤_, _<_};
+ghost use Prim.Native.Nat.{_+_, _^_, _≤_, _<_};
 ghost use lib.ListN.{length, take, drop};
 ghost use Rattle.machine.specs.Bytes.{numberOf};
 ghost use Rattle.job.specs.Frame.{kindIn, wholeBy};

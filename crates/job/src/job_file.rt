@@ -1,6 +1,6 @@
 // A job file read: what runjob is given on its standard input. The file is gone through once for each kind of number in it.
 ghost use mathlib.Core.Path.{_≡_};
-ghost use Prim.Native.Nat.{_+_, _*_, _≤_, _<_};
+ghost use Prim.Native.Nat.{_+_, _≤_, _<_};
 ghost use lib.ListN.{length, getD, drop};
 ghost use lib.Dec.{eqb};
 ghost use Rattle.machine.specs.Choice.{cond};

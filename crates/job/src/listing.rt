@@ -1,7 +1,7 @@
 // The lines that runjob prints. Each writer puts its text behind place `at` and gives the place behind it.
 ghost use mathlib.Core.Path.{_≡_};
-ghost use mathlib.Core.List.{[] as Nil, _∷_, _++_};
-ghost use Prim.Native.Nat.{_+_, _*_, _%_, _≤_, _<_};
+ghost use mathlib.Core.List.{[] as Nil, _∷_};
+ghost use Prim.Native.Nat.{_+_, _*_, _≤_, _<_};
 ghost use lib.ListN.{length};
 ghost use Rattle.job.specs.Listing.{decimalOf, fieldOf, directionText, stackLine, outLine, countsOf, haltedLine, spentLine, refusedLine, Put};
 ghost use Rattle.job.specs.Printed.{outLines};

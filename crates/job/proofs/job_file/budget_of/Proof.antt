@@ -18,7 +18,7 @@ array-read-result c = search needs
 returns : tie.Need-returns
 returns c =
     let s = c .before .before .before .before in
-    filled-one 1000000 _ _ _ (c .before .column .ensures) (budget-few (now (s .args .file)) (s .pre))
+    filled-one _ _ _ _ (c .before .column .ensures) (budget-few (now (s .args .file)) (s .pre))
 
 pub budget-of-spec : {M : Type 1} → statement M
 budget-of-spec =
