@@ -168,6 +168,13 @@ impl Check<'_> {
             }
             self.state(&what, &step.state, &cells, &both)?;
         }
+        // behind a refusal: a skiz that dropped its word may go on; here only the model answers
+        for _ in 0..3 {
+            both.call("a step behind the end", |machine, by| {
+                let mut buffer = [0; STEP_BYTES];
+                (machine.step(by, &mut buffer), buffer)
+            })?;
+        }
         Ok(())
     }
 
