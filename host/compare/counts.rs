@@ -12,6 +12,8 @@ pub struct Counts {
     pub jobs: u64,
     pub steps: u64,
     pub singles: u64,
+    /// Steps compared once more with some slices short.
+    short: u64,
     /// By instruction.
     taken: BTreeMap<&'static str, u64>,
     refused: BTreeMap<&'static str, u64>,
@@ -23,14 +25,15 @@ impl Counts {
         self.jobs += other.jobs;
         self.steps += other.steps;
         self.singles += other.singles;
+        self.short += other.short;
         other.taken.iter().for_each(|(name, count)| *self.taken.entry(name).or_default() += count);
         other.refused.iter().for_each(|(name, count)| *self.refused.entry(name).or_default() += count);
         other.numbers.iter().for_each(|(number, count)| *self.numbers.entry(*number).or_default() += count);
     }
 
-    /// Counts what is compared of a job.
-    pub fn count(&mut self, job: &Job, report: &Report) {
-        self.jobs += 1;
+    /// Counts what is compared of a job, the first time or with some slices short.
+    pub fn count(&mut self, job: &Job, report: &Report, is_first: bool) {
+        self.jobs += is_first as u64;
         let Some(opened) = &report.opened else {
             if let End::Refused(number) = report.end {
                 *self.numbers.entry(number).or_default() += 1;
@@ -50,10 +53,11 @@ impl Counts {
             }
             pointer = step.state.pointer;
         }
-        if job.budget == 1 {
-            self.singles += report.tried.len() as u64;
-        } else {
-            self.steps += report.tried.len() as u64;
+        let steps = report.tried.len() as u64;
+        match (is_first, job.budget) {
+            (false, _) => self.short += steps,
+            (true, 1) => self.singles += steps,
+            (true, _) => self.steps += steps,
         }
     }
 
@@ -65,7 +69,10 @@ impl Counts {
         }
         println!("{:<20}{:>12}", "number", "times");
         self.numbers.iter().for_each(|(number, count)| println!("{number:<20}{count:>12}"));
-        println!("{} jobs, {} steps, {} single steps", self.jobs, self.steps, self.singles);
+        println!(
+            "{} jobs, {} steps, {} single steps; {} steps once more with less lent",
+            self.jobs, self.steps, self.singles, self.short
+        );
     }
 
     /// Instructions never taken, and numbers never given.

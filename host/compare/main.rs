@@ -35,9 +35,9 @@ fn compare_piece(seed: u64, piece: u64, oracle: &Oracle) -> Result<Counts, Strin
             return;
         }
         let job = &jobs[place];
-        let mut compare = |report: Report, room: Room, random: &mut Random| {
+        let mut compare = |report: Report, room: Room, is_first: bool, random: &mut Random| {
             let report = limited(report, room);
-            counts.count(job, &report);
+            counts.count(job, &report, is_first);
             check(job, &report, room, random).err().map(|difference| (place, room, difference))
         };
         let most = used(job, &report);
@@ -48,10 +48,10 @@ fn compare_piece(seed: u64, piece: u64, oracle: &Oracle) -> Result<Counts, Strin
             cells: most.cells + spare(),
             output: most.output + spare(),
         };
-        found = compare(report.clone(), ample, &mut random);
+        found = compare(report.clone(), ample, true, &mut random);
         let tight = tight(most, least(job), &mut random);
         if found.is_none() && report.opened.is_some() && tight != most {
-            found = compare(report, tight, &mut random);
+            found = compare(report, tight, false, &mut random);
         }
     });
     match found {
