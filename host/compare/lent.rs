@@ -204,8 +204,10 @@ impl Machine {
     }
 }
 
-/// What a call returns is its answer's number.
-fn numbered(answer: Answer, number: u64) -> Answer {
-    assert_eq!(answer[answer::NUMBER], number, "a call returned another number than its answer has: {answer:?}");
+/// The answer; where the call returned another number than stands in it, one with a number that no call gives.
+fn numbered(mut answer: Answer, number: u64) -> Answer {
+    if answer[answer::NUMBER] != number {
+        answer[answer::NUMBER] = u64::MAX;
+    }
     answer
 }

@@ -15,3 +15,4 @@ pub mod random;
 pub mod records;
 pub mod states;
 pub mod tip5;
+mod tip5_constants;
