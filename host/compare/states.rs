@@ -22,6 +22,10 @@ pub fn single(random: &mut Random, instruction: &Instruction) -> Job {
     operands(random, instruction, &mut stack);
     let mut ram = cells(random, 6);
     cells_under(random, &stack, &mut ram);
+    let mut jumps: Vec<(u64, u64)> = (0..inputs[3]).map(|_| (random.word(), random.word())).collect();
+    if random.once_in(500) {
+        make_large(random, &mut stack, &mut jumps, &mut ram);
+    }
     Job {
         digest: [0; 5],
         public: random.words(inputs[0]),
@@ -42,10 +46,20 @@ pub fn single(random: &mut Random, instruction: &Instruction) -> Job {
             },
             halted: random.once_in(40),
             stack,
-            jumps: (0..inputs[3]).map(|_| (random.word(), random.word())).collect(),
+            jumps,
             sponge: (!random.once_in(3)).then(|| core::array::from_fn(|_| random.word())),
         }),
         slots,
+    }
+}
+
+/// A deep stack, many jump entries, many cells.
+fn make_large(random: &mut Random, stack: &mut Vec<u64>, jumps: &mut Vec<(u64, u64)>, ram: &mut Vec<(u64, u64)>) {
+    let below = random.index(5000);
+    stack.splice(0..0, random.words(below));
+    (0..random.index(1000)).for_each(|_| jumps.insert(0, (random.word(), random.word())));
+    for i in 0..random.below(1500) {
+        ram.insert(random.index(ram.len() + 1), (0xffff_0000_0000_0000 + i, random.word()));
     }
 }
 
