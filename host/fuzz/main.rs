@@ -1,4 +1,5 @@
 //! fuzz [CALLS [SEED]]: so many calls of each export on arbitrary input, each made twice between guards and held to the model.
+//! fuzz piece N SEED: one piece of that work again.
 mod guard;
 mod input;
 mod lengths;
@@ -49,7 +50,11 @@ impl Fuzz {
                 watched.call.store(call, Relaxed);
                 watched.since.store(self.start.elapsed().as_millis() as u64 + 1, Relaxed);
                 let number = compare(export, &input, &mut arenas).map_err(|text| {
-                    format!("{}: {text}\ninput: {input:?}\nrepeat: seed {}, piece {piece}, call {call}", export.name(), self.seed)
+                    format!(
+                        "{}: {text}\ninput: {input:?}\nrepeat: fuzz piece {piece} {}; it is call {call}",
+                        export.name(),
+                        self.seed
+                    )
                 })?;
                 watched.since.store(0, Relaxed);
                 *counts.entry((export.name(), number)).or_default() += 1;
@@ -86,7 +91,16 @@ fn is_at_skiz(input: &Input) -> bool {
 }
 
 fn main() {
-    let mut words = std::env::args().skip(1).map(|word| word.parse().unwrap_or_else(|_| usage()));
+    let is_piece = std::env::args().nth(1).is_some_and(|word| word == "piece");
+    let mut words = std::env::args().skip(1 + is_piece as usize).map(|word| word.parse().unwrap_or_else(|_| usage()));
+    if is_piece {
+        let piece = words.next().unwrap_or_else(|| usage());
+        let fuzz = Fuzz { seed: words.next().unwrap_or_else(|| usage()), start: Instant::now() };
+        match fuzz.piece(piece, &Watched::default()) {
+            Ok(counts) => return print(&counts),
+            Err(text) => fail(&text),
+        }
+    }
     let calls: u64 = words.next().unwrap_or(10_000_000);
     let seed = words.next().unwrap_or_else(|| std::time::UNIX_EPOCH.elapsed().unwrap().as_secs());
     println!("seed {seed}: {calls} calls of each export");
@@ -111,10 +125,7 @@ fn main() {
                             let mut total = total.lock().unwrap();
                             counts.into_iter().for_each(|(key, count)| *total.entry(key).or_default() += count);
                         }
-                        Err(text) => {
-                            println!("{text}");
-                            exit(1);
-                        }
+                        Err(text) => fail(&text),
                     }
                 }
                 running.fetch_sub(1, Relaxed);
@@ -127,20 +138,29 @@ fn main() {
                 let since = watched.since.load(Relaxed);
                 if since != 0 && now.saturating_sub(since) > LIMIT.as_millis() as u64 {
                     let (piece, call) = (watched.piece.load(Relaxed), watched.call.load(Relaxed));
-                    println!("a call takes over {} seconds: seed {seed}, piece {piece}, call {call}", LIMIT.as_secs());
-                    exit(1);
+                    let limit = LIMIT.as_secs();
+                    fail(&format!("a call takes over {limit} seconds\nrepeat: fuzz piece {piece} {seed}; it is call {call}"));
                 }
             }
         }
     });
-    println!("{:<26}{:>8}{:>12}", "export", "number", "calls");
-    for ((name, number), count) in total.into_inner().unwrap() {
-        println!("{name:<26}{number:>8}{count:>12}");
-    }
+    print(&total.into_inner().unwrap());
     println!("seed {seed}: no difference, {} seconds", fuzz.start.elapsed().as_secs());
 }
 
+fn print(counts: &Counts) {
+    println!("{:<26}{:>8}{:>12}", "export", "number", "calls");
+    for ((name, number), count) in counts {
+        println!("{name:<26}{number:>8}{count:>12}");
+    }
+}
+
+fn fail(text: &str) -> ! {
+    println!("{text}");
+    exit(1)
+}
+
 fn usage() -> ! {
-    eprintln!("fuzz [CALLS [SEED]]");
+    eprintln!("fuzz [CALLS [SEED]]\nfuzz piece N SEED");
     exit(2)
 }
