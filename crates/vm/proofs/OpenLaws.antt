@@ -16,8 +16,8 @@ use Rattle.machine.specs.Open.{openedStack, opened}
 use Rattle.machine.proofs.Choice.{first-nil, above-nil}
 use Rattle.machine.proofs.Copies.{fill-end}
 use Rattle.machine.proofs.Refused.{open-accepts, open-refuses}
-use Rattle.vm.specs.declared.answer.Answer.the-variants.{Took, Refused}
-use Rattle.vm.specs.StepView.{turned}
+use Rattle.inner_step.specs.declared.answer.Answer.the-variants.{Took, Refused}
+use Rattle.inner_step.specs.AnswerView.{turned}
 use Rattle.vm.specs.OpenView.{registersOf, noState, Opens}
 
 -- ---- the stacks

@@ -19,14 +19,14 @@ use Rattle.machine.proofs.Facts.{facts}
 use Rattle.machine.proofs.Step.{step-sound}
 use Rattle.machine.proofs.Refused.{run-refuses}
 use Rattle.machine.proofs.Run.{run-is}
-use Rattle.vm.specs.declared.answer.Answer.{Answer}
-use Rattle.vm.specs.declared.answer.Answer.the-variants.{Took, Refused}
-use Rattle.vm.specs.declared.answer.Stepped.{Stepped}
+use Rattle.inner_step.specs.declared.answer.Answer.{Answer}
+use Rattle.inner_step.specs.declared.answer.Answer.the-variants.{Took, Refused}
+use Rattle.inner_step.specs.declared.answer.Stepped.{Stepped}
 use Rattle.vm.specs.declared.answer.Ending.{Ending as EndingIn}
 use Rattle.vm.specs.declared.answer.Ending.the-variants as E
 use Rattle.vm.specs.declared.answer.Ran.{Ran}
-use Rattle.vm.specs.StepView.{did, turned, answerIn, answeredBy, leftBy, Gives}
-use Rattle.vm.specs.AdvanceView.{Advanced}
+use Rattle.inner_step.specs.AnswerView.{did, turned, answerIn, answeredBy, leftBy, Gives}
+use Rattle.inner_step.specs.AdvanceView.{Advanced}
 use Rattle.vm.specs.RunView.{endingIn, endOf, RanAs, RunsOn, Runs}
 
 -- k steps before those of r

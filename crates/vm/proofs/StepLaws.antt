@@ -16,10 +16,11 @@ use Rattle.machine.specs.Step.{outcomeBy, stepBy}
 use Rattle.machine.proofs.Choice.{first-nil, above-nil}
 use Rattle.machine.proofs.PlaceA.{machine-sound}
 use Rattle.machine.proofs.Refused.{step-refuses}
-use Rattle.vm.specs.declared.answer.Answer.the-variants.{Refused}
-use Rattle.vm.specs.declared.answer.Stepped.{Stepped}
-use Rattle.vm.specs.StepView.{turned, Steps}
-use Rattle.vm.specs.AdvanceView.{Standing, Advanced}
+use Rattle.inner_step.specs.declared.answer.Answer.the-variants.{Refused}
+use Rattle.inner_step.specs.declared.answer.Stepped.{Stepped}
+use Rattle.inner_step.specs.AnswerView.{turned}
+use Rattle.vm.specs.StepView.{Steps}
+use Rattle.inner_step.specs.AdvanceView.{Standing, Advanced}
 
 pub step-number : (m : Machine) (b : List ℕ) {s k n : ℕ} → s ≡ firstOf (aboveOf (length b) longest 1) (aboveOf 1024 (length b) 1) → k ≡ machineA m → n ≡ firstOf s k → n ≡ stepA m b
 unfolding stepA buffer1

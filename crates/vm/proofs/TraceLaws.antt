@@ -26,14 +26,14 @@ use Rattle.machine.proofs.Facts.{facts}
 use Rattle.machine.proofs.Step.{Took as TookBy, step-took, step-sound}
 use Rattle.machine.proofs.StepBytes.{step-few}
 use Rattle.machine.proofs.Logged.{logged-none, logged-front, logged-logged, logged-back}
-use Rattle.vm.specs.declared.answer.Answer.{Answer}
-use Rattle.vm.specs.declared.answer.Answer.the-variants.{Took, Refused}
-use Rattle.vm.specs.declared.answer.Stepped.{Stepped}
+use Rattle.inner_step.specs.declared.answer.Answer.{Answer}
+use Rattle.inner_step.specs.declared.answer.Answer.the-variants.{Took, Refused}
+use Rattle.inner_step.specs.declared.answer.Stepped.{Stepped}
 use Rattle.vm.specs.declared.answer.TraceEnding.{TraceEnding as EndingIn}
 use Rattle.vm.specs.declared.answer.TraceEnding.the-variants as E
 use Rattle.vm.specs.declared.answer.Traced.{Traced}
-use Rattle.vm.specs.StepView.{did, turned, answerIn, Gives}
-use Rattle.vm.specs.AdvanceView.{advancedBy, Standing, Advanced}
+use Rattle.inner_step.specs.AnswerView.{did, turned, answerIn, Gives}
+use Rattle.inner_step.specs.AdvanceView.{advancedBy, Standing, Advanced}
 use Rattle.vm.specs.Trace.{TraceEnding, halted, spent, full, refused, Traced as TraceGives, traced, stepLog, onTrace, tracesOf, traceExecutionOf}
 use Rattle.vm.specs.TraceView.{StandingAt, logIn, AdvancedAt, StandingIn, endingIn, endOf, TracedAs, TracesOn, Traces}
 use Rattle.vm.proofs.RunLaws.{advanced-outcome}

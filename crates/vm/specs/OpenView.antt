@@ -5,8 +5,8 @@ use mathlib.Core.List.{List}
 use Rattle.machine.specs.declared.vm.VMState.{VMState}
 use Rattle.machine.specs.Machine.{Code, Memory, machine}
 use Rattle.machine.specs.Open.{noSponge, openOf}
-use Rattle.vm.specs.declared.answer.Moved.{Moved}
-use Rattle.vm.specs.StepView.{Gives}
+use Rattle.inner_step.specs.declared.answer.Moved.{Moved}
+use Rattle.inner_step.specs.AnswerView.{Gives}
 
 -- a depth and so many RAM cells used, all else 0, not halted and with no sponge
 abbrev pub registersOf : ℕ → ℕ → VMState

@@ -13,11 +13,11 @@ use Rattle.machine.specs.Step.{outcomeBy}
 use Rattle.machine.specs.Logged.{logged}
 use Rattle.machine.specs.PlaceA.{longest}
 use Rattle.machine.specs.Sound.{Sound}
-use Rattle.vm.specs.declared.answer.Stepped.{Stepped}
+use Rattle.inner_step.specs.declared.answer.Stepped.{Stepped}
 use Rattle.vm.specs.declared.answer.TraceEnding.{TraceEnding as EndingIn}
 use Rattle.vm.specs.declared.answer.TraceEnding.the-variants.{Halted, Spent, Full, Refused}
 use Rattle.vm.specs.declared.answer.Traced.{Traced}
-use Rattle.vm.specs.StepView.{Gives}
+use Rattle.inner_step.specs.AnswerView.{Gives}
 use Rattle.vm.specs.Trace.{TraceEnding, halted, spent, full, refused, Traced as TraceGives, stepLog, tracesOf, traceExecutionOf}
 
 -- ---- one step behind place `at` of the log

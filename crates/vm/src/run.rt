@@ -3,11 +3,11 @@ ghost use mathlib.Core.Path.{_≡_};
 ghost use Rattle.machine.specs.Machine.{machine, code, memory};
 ghost use Rattle.machine.specs.Sound.{Sound};
 ghost use Rattle.vm.specs.RunView.{endOf, RunsOn, Runs};
-use crate::advance::advance;
-use crate::answer::Answer;
 use crate::answer::Ending;
 use crate::answer::Ran;
 use crate::faults::fault;
+use inner_step::advance::advance;
+use inner_step::answer::Answer;
 use machine::checks::check_machine;
 use machine::vm::VMState;
 

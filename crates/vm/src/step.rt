@@ -1,10 +1,10 @@
 // step: place A, then one step with its records.
 ghost use Rattle.machine.specs.Machine.{machine, code, memory};
 ghost use Rattle.vm.specs.StepView.{Steps};
-use crate::advance::advance;
-use crate::answer::Answer;
-use crate::answer::Stepped;
 use crate::faults::fault;
+use inner_step::advance::advance;
+use inner_step::answer::Answer;
+use inner_step::answer::Stepped;
 use machine::checks::check_buffer;
 use machine::checks::check_machine;
 use machine::checks::first;

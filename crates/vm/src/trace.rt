@@ -2,12 +2,12 @@
 ghost use mathlib.Core.Path.{_≡_};
 ghost use Rattle.machine.specs.Machine.{machine, code, memory};
 ghost use Rattle.vm.specs.TraceView.{StandingAt, AdvancedAt, StandingIn, endOf, TracesOn, Traces};
-use crate::advance::advance;
-use crate::answer::Answer;
-use crate::answer::Stepped;
 use crate::answer::TraceEnding;
 use crate::answer::Traced;
 use crate::faults::fault;
+use inner_step::advance::advance;
+use inner_step::answer::Answer;
+use inner_step::answer::Stepped;
 use machine::checks::check_buffer;
 use machine::checks::check_machine;
 use machine::checks::first;

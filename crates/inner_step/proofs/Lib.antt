@@ -1,0 +1,9 @@
+-- The laws that the proofs cite.
+pub mod Accesses
+pub mod AdvanceLaws
+pub mod DecideLaws
+pub mod LimitsLaws
+pub mod PerformLaws
+pub mod PlaceBLaws
+pub mod RecordsLaws
+pub mod SettleLaws

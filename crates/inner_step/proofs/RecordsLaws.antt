@@ -1,0 +1,21 @@
+-- What the buffer holds where records were written, and where none were. Assumes nothing.
+use mathlib.Core.Path.{_≡_, refl, sym, ap, subst, _∙_}
+use mathlib.Core.Bool.{Bool, true, false}
+use mathlib.Core.List.{List}
+use Prim.Native.Nat.{ℕ}
+use Rattle.machine.specs.Choice.{cond}
+use Rattle.machine.specs.Records.{Record}
+use Rattle.machine.specs.Logged.{Wrote}
+use Rattle.machine.specs.declared.hashing.Hashed.{Hashed}
+use Rattle.machine.specs.Effect.{Call}
+use Rattle.machine.specs.HashedView.{hashedCalls}
+use Rattle.machine.proofs.Logged.{wrote-buffer, wrote-bytes}
+use Rattle.inner_step.specs.RecordsView.{Recorded}
+
+pub recorded-some : {t : Bool} {b b2 : List ℕ} {rs us : List Record} {n r : ℕ} → t ≡ true → rs ≡ us → Wrote b b2 0 rs n r → Recorded t b b2 us r
+recorded-some {t} {b} {b2} {rs} {us} {n} {r} e f w =
+    subst (λ (x : Bool). Recorded x b b2 us r) (sym e)
+    (subst (λ (x : List Record). Recorded true b b2 x r) f (record { buffer = wrote-buffer w; bytes = wrote-bytes w }))
+
+pub recorded-none : {t : Bool} {b : List ℕ} {rs : List Record} → t ≡ false → Recorded t b b rs 0
+recorded-none {t} {b} {rs} e = subst (λ (x : Bool). Recorded x b b rs 0) (sym e) (record { buffer = refl; bytes = refl })

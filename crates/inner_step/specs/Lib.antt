@@ -1,0 +1,7 @@
+-- What the contracts cite.
+pub mod AdvanceView
+pub mod AnswerView
+pub mod DecideView
+pub mod PerformView
+pub mod PlaceBView
+pub mod RecordsView

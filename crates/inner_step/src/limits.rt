@@ -1,0 +1,111 @@
+// Place D: whether there is room for an effect, as a number from 30 to 34, or 0. Numbers are chosen and not branched on.
+ghost use mathlib.Core.Path.{_≡_};
+ghost use Prim.Native.Nat.{_+_, _≤_};
+ghost use lib.ListN.{length};
+ghost use Rattle.machine.specs.Choice.{aboveOf};
+ghost use Rattle.machine.specs.Machine.{memory};
+ghost use Rattle.inner_step.specs.PerformView.{jumpsBy, amongOf, newOf, freshOf, Fit, Limited};
+use machine::checks::above;
+use machine::checks::first;
+use machine::checks::least;
+use machine::effect::Effect;
+use machine::op_stack::over;
+use machine::ram;
+use machine::ram::Found;
+use machine::vm::VMState;
+
+// How many entries the jump stack has after an effect.
+pub fn jumps_after(n: usize, calls: bool, returns: bool) -> usize
+    requires { ⌜ n ≤ 16777216 ⌝ }
+    ensures { λ r. ⌜ r ≡ jumpsBy n calls returns ⌝ }
+{
+    if calls {
+        return n + 1;
+    }
+    if returns {
+        return over(n, 1);
+    }
+    n
+}
+
+// Whether an address is one of the n from place `from` on.
+fn among(written: [u64; 10], from: usize, n: usize, address: u64) -> bool
+    requires { ⌜ from + n ≤ 10 ⌝ }
+    ensures { λ r. ⌜ r ≡ amongOf written from n address ⌝ }
+{
+    let mut found = false;
+    let mut i = 0;
+    while i < n {
+        if written[from + i] == address {
+            found = true;
+        }
+        i += 1;
+    }
+    found
+}
+
+// 1 where the write at place from + i adds a cell: its address has none, and no write before it has the same.
+fn new_cell(addresses: &[u64], count: usize, written: [u64; 10], from: usize, i: usize) -> usize
+    requires { ⌜ (count ≤ length (now addresses)) × (from + i + 1 ≤ 10) ⌝ }
+    ensures { λ r. ⌜ r ≡ newOf (now (addresses .entry)) count written from i ⌝ }
+{
+    let address = written[from + i];
+    if among(written, from, i, address) {
+        return 0;
+    }
+    match ram::find(addresses, count, address) {
+        Found::At(_) => 0,
+        Found::Absent(_) => 1,
+    }
+}
+
+// How many cells the n writes from place `from` on add.
+fn fresh(addresses: &[u64], count: usize, written: [u64; 10], from: usize, n: usize) -> usize
+    requires { ⌜ (count ≤ length (now addresses)) × (from + n ≤ 10) ⌝ }
+    ensures { λ r. ⌜ r ≡ freshOf (now (addresses .entry)) count written from n ⌝ }
+{
+    let mut more = 0;
+    let mut i = 0;
+    while i < n {
+        more += new_cell(addresses, count, written, from, i);
+        i += 1;
+    }
+    more
+}
+
+// 32 where the writes need more cells than there are. Addresses are looked for only where the table is nearly full.
+fn ram_limit(addresses: &[u64], count: usize, written: [u64; 10], from: usize, n: usize) -> u64
+    requires { ⌜ (count ≤ length (now addresses)) × (from + n ≤ 10) × (length (now addresses) ≤ 16777216) ⌝ }
+    ensures { λ r. ⌜ r ≡ aboveOf (count + freshOf (now (addresses .entry)) count written from n) (length (now (addresses .entry))) 32 ⌝ }
+{
+    if count + n <= addresses.len() {
+        return 0;
+    }
+    let more = fresh(addresses, count, written, from, n);
+    above(count + more, addresses.len(), 32)
+}
+
+// Every number is found, and the first that applies is given. An array has no more words than it is long, whatever its count.
+pub fn limits(
+    state: VMState,
+    effect: Effect,
+    op_stack: &[u64],
+    origins: &[u64],
+    destinations: &[u64],
+    addresses: &[u64],
+    values: &[u64],
+    output: &[u64],
+) -> u64
+    requires { ⌜ Fit state effect (memory (now «op_stack») (now origins) (now destinations) (now addresses) (now values) (now output)) ⌝ }
+    ensures { λ r. ⌜ Limited state effect (memory (now («op_stack» .entry)) (now (origins .entry)) (now (destinations .entry)) (now (addresses .entry)) (now (values .entry)) (now (output .entry))) r ⌝ }
+{
+    let depth = state.depth - effect.pops + least(effect.count, 16);
+    let outputs = state.outputs + least(effect.outputs, 5);
+    let jumps = jumps_after(state.jumps, effect.calls, effect.returns);
+    let written = effect.addresses;
+    let cells = ram_limit(addresses, state.cells, written, effect.reads, effect.writes);
+    let clock = above(state.clock as usize, 4294967294, 34);
+    let last = first(above(outputs, output.len(), 33), clock);
+    let middle = first(above(jumps, origins.len(), 31), first(cells, last));
+    first(above(depth, op_stack.len(), 30), middle)
+}
