@@ -15,7 +15,7 @@ use Rattle.machine.specs.PlaceA.{code1, memory1, buffer1, code2, machine2, unkn
 
 -- ---- choices
 
-first-few : {a b : ℕ} → a ≤ 5 → b ≤ 5 → firstOf a b ≤ 5
+pub first-few : {a b : ℕ} → a ≤ 5 → b ≤ 5 → firstOf a b ≤ 5
 unfolding firstOf
 first-few {a} {b} h l = go (eqb a 0)
   where
@@ -23,7 +23,7 @@ first-few {a} {b} h l = go (eqb a 0)
     go true = l
     go false = h
 
-above-few : (a b n : ℕ) → n ≤ 5 → aboveOf a b n ≤ 5
+pub above-few : (a b n : ℕ) → n ≤ 5 → aboveOf a b n ≤ 5
 unfolding aboveOf
 above-few a b n h = go (ltb b a)
   where

@@ -9,10 +9,10 @@ use lib.ListN.{length, take, drop, length-append, length-drop}
 use lib.Dec.{eqb}
 use Rattle.machine.specs.declared.vm.VMState.{VMState}
 use Rattle.machine.specs.declared.refusal.InstructionError.{InstructionError}
-use Rattle.machine.specs.Choice.{cond, aboveOf}
+use Rattle.machine.specs.Choice.{cond, firstOf, aboveOf}
 use Rattle.machine.specs.Refusal.{Refusal, refusalOf, plainly}
 use Rattle.machine.specs.Machine.{Code, Memory, Machine, machine}
-use Rattle.machine.specs.PlaceA.{longest, buffer1, machineA, stepA}
+use Rattle.machine.specs.PlaceA.{longest, machineA}
 use Rattle.machine.specs.Effect.{Effect, acts}
 use Rattle.machine.specs.Decide.{decideOf}
 use Rattle.machine.specs.Apply.{Outcome, took, kept, lost, settled}
@@ -34,8 +34,9 @@ use Rattle.vm.specs.declared.answer.TraceEnding.the-variants as E
 use Rattle.vm.specs.declared.answer.Traced.{Traced}
 use Rattle.inner_step.specs.AnswerView.{did, turned, answerIn, Gives}
 use Rattle.inner_step.specs.AdvanceView.{advancedBy, Standing, Advanced}
-use Rattle.vm.specs.Trace.{TraceEnding, halted, spent, full, refused, Traced as TraceGives, traced, stepLog, onTrace, tracesOf, traceExecutionOf}
+use Rattle.vm.specs.Trace.{TraceEnding, halted, spent, full, refused, Traced as TraceGives, traced, stepLog, onTrace, tracesOf, traceA, traceExecutionOf}
 use Rattle.vm.specs.TraceView.{StandingAt, logIn, AdvancedAt, StandingIn, endingIn, endOf, TracedAs, TracesOn, Traces}
+use Rattle.vm.proofs.FaultsLaws.{first-few, above-few, machineA-few}
 use Rattle.vm.proofs.RunLaws.{advanced-outcome}
 
 -- ---- a step behind a place
@@ -212,21 +213,29 @@ module _ {budget : ℕ} {b0 : List ℕ} {g : TraceGives} {m : Machine} {k at : �
 -- ---- the call
 
 -- the sponge has sixteen words and the clock 32 bits by their types
-pub stands-in : (m : Machine) (b : List ℕ) → length (m .state .sponge .words) ≡ 16 → m .state .clock < 4294967296 → stepA m b ≡ 0 → StandingIn m b
-unfolding stepA buffer1
+pub stands-in : (m : Machine) (b : List ℕ) → length (m .state .sponge .words) ≡ 16 → m .state .clock < 4294967296 → traceA m b ≡ 0 → StandingIn m b
+unfolding traceA
 stands-in m b sixteen clock h =
     let k = first-nil _ (machineA m) h in
-    record { sound = machine-sound m sixteen clock (k .1); few = above-nil (length b) longest 1 (omega arith) (first-nil _ (aboveOf 1024 (length b) 1) (k .0) .0) }
+    record { sound = machine-sound m sixteen clock (k .1); few = above-nil (length b) longest 1 (omega arith) (k .0) }
+
+pub trace-number : (m : Machine) (b : List ℕ) {s k n : ℕ} → s ≡ aboveOf (length b) longest 1 → k ≡ machineA m → n ≡ firstOf s k → n ≡ traceA m b
+unfolding traceA
+trace-number m b e f g = g ∙ rw (e, f)
+
+pub traceA-few : (m : Machine) (b : List ℕ) → traceA m b ≤ 5
+unfolding traceA
+traceA-few m b = first-few (above-few (length b) longest 1 (omega arith)) (machineA-few m)
 
 module _ (budget : ℕ) (m : Machine) (b : List ℕ) where
-  pub trace-accepted : {r : Traced} {n : Memory} {b2 : List ℕ} → stepA m b ≡ 0 → TracesOn budget m b r n b2 → Traces budget m b r n b2
+  pub trace-accepted : {r : Traced} {n : Memory} {b2 : List ℕ} → traceA m b ≡ 0 → TracesOn budget m b r n b2 → Traces budget m b r n b2
   unfolding traceExecutionOf
-  trace-accepted {r} {n} {b2} z h = subst (λ (x : Bool). TracedAs (cond x (tracesOf budget (length b) m) (traced 0 (refused (plainly (stepA m b))) m [])) (m .code) b r n b2) (sym (eq-eqb (stepA m b) 0 z)) h
+  trace-accepted {r} {n} {b2} z h = subst (λ (x : Bool). TracedAs (cond x (tracesOf budget (length b) m) (traced 0 (refused (plainly (traceA m b))) m [])) (m .code) b r n b2) (sym (eq-eqb (traceA m b) 0 z)) h
 
-  pub trace-turned : {n : ℕ} {x : InstructionError} → n ≡ stepA m b → (n ≡ 0 → ⊥) → refusalOf x ≡ plainly n → Traces budget m b (record { count = 0; ending = E.Refused x; state = m .state; bytes = 0 }) (m .memory) b
+  pub trace-turned : {n : ℕ} {x : InstructionError} → n ≡ traceA m b → (n ≡ 0 → ⊥) → refusalOf x ≡ plainly n → Traces budget m b (record { count = 0; ending = E.Refused x; state = m .state; bytes = 0 }) (m .memory) b
   unfolding traceExecutionOf
   trace-turned {n} {x} e z h =
       subst
-      (λ (y : Bool). TracedAs (cond y (tracesOf budget (length b) m) (traced 0 (refused (plainly (stepA m b))) m [])) (m .code) b (record { count = 0; ending = E.Refused x; state = m .state; bytes = 0 }) (m .memory) b)
-      (sym (ne-eqb (stepA m b) 0 (λ y. z (e ∙ y))))
+      (λ (y : Bool). TracedAs (cond y (tracesOf budget (length b) m) (traced 0 (refused (plainly (traceA m b))) m [])) (m .code) b (record { count = 0; ending = E.Refused x; state = m .state; bytes = 0 }) (m .memory) b)
+      (sym (ne-eqb (traceA m b) 0 (λ y. z (e ∙ y))))
       (record { count = refl; ending = ap refused (h ∙ ap plainly e); left = refl; bytes = refl; buffer = logged-none b 0 })

@@ -5,14 +5,14 @@ use mathlib.Core.Bool.{Bool}
 use mathlib.Core.List.{List, [], _++_}
 use lib.ListN.{length}
 use lib.Dec.{eqb, ltb}
-use Rattle.machine.specs.Choice.{cond}
+use Rattle.machine.specs.Choice.{cond, firstOf}
 use Rattle.machine.specs.Refusal.{Refusal, plainly}
 use Rattle.machine.specs.Machine.{Machine}
 use Rattle.machine.specs.Decide.{decideOf}
 use Rattle.machine.specs.Apply.{Outcome, took, kept, lost}
 use Rattle.machine.specs.Records.{logBytes}
 use Rattle.machine.specs.Step.{recordsIn, outcomeBy}
-use Rattle.machine.specs.PlaceA.{stepA}
+use Rattle.machine.specs.PlaceA.{tooLong, machineA}
 
 -- how it ended; full where fewer than 1,024 bytes of the log are left
 pub data TraceEnding : Type 0 where
@@ -48,6 +48,9 @@ tracesOf (suc n) room m =
     cond (m .state .halted) (traced 0 halted m [])
     (cond (ltb room 1024) (traced 0 full m []) (onTrace m (λ x. tracesOf n (room - length (stepLog m)) x) (outcomeBy decideOf m)))
 
--- place A is step's, with the log in place of the call buffer
+-- place A is run's, and the log is not too long; a short one is full at once
+unfoldable pub traceA : Machine → List ℕ → ℕ
+traceA m b = firstOf (tooLong b) (machineA m)
+
 unfoldable pub traceExecutionOf : ℕ → Machine → List ℕ → Traced
-traceExecutionOf budget m b = cond (eqb (stepA m b) 0) (tracesOf budget (length b) m) (traced 0 (refused (plainly (stepA m b))) m [])
+traceExecutionOf budget m b = cond (eqb (traceA m b) 0) (tracesOf budget (length b) m) (traced 0 (refused (plainly (traceA m b))) m [])

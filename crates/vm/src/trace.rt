@@ -8,7 +8,7 @@ use crate::faults::fault;
 use inner_step::advance::advance;
 use inner_step::answer::Answer;
 use inner_step::answer::Stepped;
-use machine::checks::check_buffer;
+use machine::checks::above;
 use machine::checks::check_machine;
 use machine::checks::first;
 use machine::vm::VMState;
@@ -145,7 +145,7 @@ fn steps(
     }
 }
 
-// Its log is the joined records of as many steps; a log shorter than step's call buffer may be is refused as step refuses it.
+// Its log is the joined records of as many steps. A log with less than 1,024 bytes is full at once.
 pub fn trace_execution(
     budget: u64,
     state: VMState,
@@ -166,7 +166,7 @@ pub fn trace_execution(
         (memory (now («op_stack» .entry)) (now (origins .entry)) (now (destinations .entry)) (now (addresses .entry)) (now (values .entry)) (now (output .entry)))) (now (b .entry)) r
         (memory (now («op_stack» .exit)) (now (origins .exit)) (now (destinations .exit)) (now (addresses .exit)) (now (values .exit)) (now (output .exit))) (now (b .exit)) ⌝ }
 {
-    let shape = check_buffer(b.len());
+    let shape = above(b.len(), 16777216, 1);
     let fault_number = check_machine(
         state,
         opcodes,

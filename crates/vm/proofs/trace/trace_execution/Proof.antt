@@ -4,14 +4,13 @@ use mathlib.Core.Path.{_≡_, sym, _∙_}
 use Prim.Native.Nat.{ℕ}
 use lib.ListN.{length}
 use denote.Ref.{now}
-use Rattle.vm.proofs.FaultsLaws.{stepA-few, fault-number}
-use Rattle.vm.proofs.StepLaws.{step-number}
-use Rattle.vm.proofs.TraceLaws.{stands-in, trace-accepted, trace-turned}
+use Rattle.vm.proofs.FaultsLaws.{fault-number}
+use Rattle.vm.proofs.TraceLaws.{stands-in, trace-number, traceA-few, trace-accepted, trace-turned}
 use Rattle.vm.proofs.trace.trace_execution.Statement.{statement}
 use Rattle.vm.proofs.trace.trace_execution.Tie as tie
 
-check-buffer-requires : tie.Need-check-buffer-requires
-check-buffer-requires c κs = search needs
+above-requires : tie.Need-above-requires
+above-requires c κs = search needs
 
 check-machine-requires : tie.Need-check-machine-requires
 check-machine-requires c κs = search needs
@@ -24,10 +23,10 @@ steps-requires c κs =
     let s = c .before .before .before .before .before .before .before .before .before .before .before .before .before .before .before .before .before .before .before .before .before .before .before .before .before .before .before .before .before in
     let w = s .args .state .sponge .words in
     let sixteen : length w ≡ 16 = length-unmapped ℕ w 16 (s .good .1 .0 .1 .1 .1 .1 .1 .1 .1 .1 .1 .1 .1 .0 .1 .1 .0 .1 .0 .1) in
-    stands-in _ _ sixteen (search needs) (sym (step-number _ (now (c .before .before .before .before .before .before .before .before .before .before .before .before .before .before .before .before .before .before .before .before .before .before .before .before .before .before .before .before .before .args .b)) (c .before .before .before .before .before .before .before .before .before .before .before .before .before .before .before .before .check-buffer .ensures) (c .before .before .before .before .before .before .before .before .before .check-machine .ensures) (c .before .before .before .before .before .before .before .before .first .ensures)) ∙ c .before .before .before .before .before .before .before .if1 .taken)
+    stands-in _ _ sixteen (search needs) (sym (trace-number _ (now (c .before .before .before .before .before .before .before .before .before .before .before .before .before .before .before .before .before .before .before .before .before .before .before .before .before .before .before .before .before .args .b)) (c .before .before .before .before .before .before .before .before .before .before .before .before .before .before .before .before .above .ensures) (c .before .before .before .before .before .before .before .before .before .check-machine .ensures) (c .before .before .before .before .before .before .before .before .first .ensures)) ∙ c .before .before .before .before .before .before .before .if1 .taken)
 
 fault-requires : tie.Need-fault-requires
-fault-requires c κs = fault-number (stepA-few _ _) (step-number _ (now (c .before .before .before .before .before .before .before .before .before .before .before .before .before .before .before .before .before .before .before .before .before .before .args .b)) (c .before .before .before .before .before .before .before .before .before .check-buffer .ensures) (c .before .before .check-machine .ensures) (c .before .first .ensures)) (c .if1 .left)
+fault-requires c κs = fault-number (traceA-few _ _) (trace-number _ (now (c .before .before .before .before .before .before .before .before .before .before .before .before .before .before .before .before .before .before .before .before .before .before .args .b)) (c .before .before .before .before .before .before .before .before .before .above .ensures) (c .before .before .check-machine .ensures) (c .before .first .ensures)) (c .if1 .left)
 
 same-length : tie.Need-same-length
 same-length c = search needs
@@ -51,7 +50,7 @@ same-length-7 : tie.Need-same-length-7
 same-length-7 c = search needs
 
 returns : tie.Need-returns
-returns c = trace-accepted _ _ _ (sym (step-number _ (now (c .before .before .before .before .before .before .before .before .before .before .before .before .before .before .before .before .before .before .before .before .before .before .before .before .before .before .before .before .before .before .before .before .before .before .before .before .before .before .before .before .before .before .before .before .args .b)) (c .before .before .before .before .before .before .before .before .before .before .before .before .before .before .before .before .before .before .before .before .before .before .before .before .before .before .before .before .before .before .before .check-buffer .ensures) (c .before .before .before .before .before .before .before .before .before .before .before .before .before .before .before .before .before .before .before .before .before .before .before .before .check-machine .ensures) (c .before .before .before .before .before .before .before .before .before .before .before .before .before .before .before .before .before .before .before .before .before .before .before .first .ensures)) ∙ c .before .before .before .before .before .before .before .before .before .before .before .before .before .before .before .before .before .before .before .before .before .before .if1 .taken) (c .before .before .before .before .before .before .before .before .before .before .before .before .before .before .steps .ensures)
+returns c = trace-accepted _ _ _ (sym (trace-number _ (now (c .before .before .before .before .before .before .before .before .before .before .before .before .before .before .before .before .before .before .before .before .before .before .before .before .before .before .before .before .before .before .before .before .before .before .before .before .before .before .before .before .before .before .before .before .args .b)) (c .before .before .before .before .before .before .before .before .before .before .before .before .before .before .before .before .before .before .before .before .before .before .before .before .before .before .before .before .before .before .before .above .ensures) (c .before .before .before .before .before .before .before .before .before .before .before .before .before .before .before .before .before .before .before .before .before .before .before .before .check-machine .ensures) (c .before .before .before .before .before .before .before .before .before .before .before .before .before .before .before .before .before .before .before .before .before .before .before .first .ensures)) ∙ c .before .before .before .before .before .before .before .before .before .before .before .before .before .before .before .before .before .before .before .before .before .before .if1 .taken) (c .before .before .before .before .before .before .before .before .before .before .before .before .before .before .steps .ensures)
 
 same-length-8 : tie.Need-same-length-8
 same-length-8 c = search needs
@@ -72,13 +71,13 @@ same-length-13 : tie.Need-same-length-13
 same-length-13 c = search needs
 
 returns-2 : tie.Need-returns-2
-returns-2 c = trace-turned _ _ _ (step-number _ (now (c .before .before .before .before .before .before .before .before .before .before .before .before .before .before .before .before .before .before .before .before .before .before .before .args .b)) (c .before .before .before .before .before .before .before .before .before .before .check-buffer .ensures) (c .before .before .before .check-machine .ensures) (c .before .before .first .ensures)) (c .before .if1 .left) (c .fault .ensures)
+returns-2 c = trace-turned _ _ _ (trace-number _ (now (c .before .before .before .before .before .before .before .before .before .before .before .before .before .before .before .before .before .before .before .before .before .before .before .args .b)) (c .before .before .before .before .before .before .before .before .before .before .above .ensures) (c .before .before .before .check-machine .ensures) (c .before .before .first .ensures)) (c .before .if1 .left) (c .fault .ensures)
 
 pub trace-execution-spec : {M : Type 1} → statement M
 trace-execution-spec =
     tie.close
     (tie.spec
-    check-buffer-requires
+    above-requires
     check-machine-requires
     first-requires
     steps-requires
