@@ -2,16 +2,20 @@
 use Prim.Native.Nat.{ℕ}
 use mathlib.Core.Bool.{Bool, false}
 use mathlib.Core.List.{List}
-use lib.ListN.{length}
+use lib.ListN.{length, replicate}
 use lib.Dec.{eqb}
 use Rattle.machine.specs.declared.vm.VMState.{VMState}
 use Rattle.machine.specs.Choice.{cond}
+use Rattle.machine.specs.Refusal.{Refusal}
 use Rattle.machine.specs.Machine.{Code, Memory, Machine, machine}
+use Rattle.machine.specs.Apply.{Outcome, took, kept, lost}
 use Rattle.machine.specs.Step.{Stepped, Ran, stepOf, runOf}
-use Rattle.vm.specs.StepView.{answeredBy, leftBy}
+use Rattle.machine.specs.Open.{openOf}
+use Rattle.machine.specs.HelperVariables.{Helped, helperVariablesOf}
+use Rattle.vm.specs.StepView.{did, turned, answeredBy, leftBy}
 use Rattle.exports.specs.declared.report.Report.{Report}
 use Rattle.exports.specs.Registers.{registersOf, stateOf, readableOf}
-use Rattle.exports.specs.Report.{misfit, answerOf, saidOf, stepReport, runReport}
+use Rattle.exports.specs.Report.{misfit, answerOf, saidOf, stepReport, openReport, runReport}
 
 -- the number that a call gives, and its slices behind it
 pub record Called : Type 0 where
@@ -23,9 +27,9 @@ pub record Called : Type 0 where
 abbrev pub called : ℕ → List ℕ → List ℕ → Memory → Called
 called n w a m = record { number = n; registers = w; answer = a; memory = m }
 
--- registers that can be read, and an answer of seven words
-unfoldable pub fitsOf : List ℕ → List ℕ → Bool
-fitsOf w a = cond (readableOf w) (eqb (length a) 7) false
+-- registers that can be read, and an answer or helpers of n words
+unfoldable pub fitsOf : List ℕ → List ℕ → ℕ → Bool
+fitsOf w a n = cond (readableOf w) (eqb (length a) n) false
 
 -- they do not fit: number 1, and nothing lent is changed
 abbrev pub misfitted : List ℕ → List ℕ → Memory → Called
@@ -50,7 +54,7 @@ stepGives m s =
 
 unfoldable pub stepCall : List ℕ → List ℕ → Code → Memory → List ℕ → StepCalled
 stepCall w a c m b =
-    cond (fitsOf w a)
+    cond (fitsOf w a 7)
     (stepGives (machine (stateOf w) c m) (stepOf (machine (stateOf w) c m) b))
     (stepCalled (misfitted w a m) b)
 
@@ -60,4 +64,39 @@ abbrev pub runGives : Ran → Called
 runGives g = reported (runReport (g .ending) (g .count)) (g .left .state) (g .left .memory)
 
 unfoldable pub runCall : ℕ → List ℕ → List ℕ → Code → Memory → Called
-runCall budget w a c m = cond (fitsOf w a) (runGives (runOf budget (machine (stateOf w) c m))) (misfitted w a m)
+runCall budget w a c m = cond (fitsOf w a 7) (runGives (runOf budget (machine (stateOf w) c m))) (misfitted w a m)
+
+-- ---- open, of a program digest and so many RAM cells used
+
+-- the registers' words do not matter: they are not read
+unfoldable pub openFitsOf : List ℕ → List ℕ → List ℕ → Bool
+openFitsOf w a digest = cond (eqb (length w) 27) (cond (eqb (length a) 7) (eqb (length digest) 5) false) false
+
+-- refused: the registers keep their words, and nothing lent is changed
+abbrev pub unopened : List ℕ → Memory → Refusal → Called
+unopened w m r = called (r .number) w (answerOf (openReport (turned r))) m
+
+-- open drops no word, so that the last does not come about
+abbrev pub openGives : List ℕ → Memory → Outcome → Called
+openGives w m (took x) = reported (openReport did) (x .state) (x .memory)
+openGives w m (kept r) = unopened w m r
+openGives w m (lost r x) = unopened w m r
+
+unfoldable pub openCall : List ℕ → List ℕ → List ℕ → ℕ → Code → Memory → Called
+openCall w a digest n c m = cond (openFitsOf w a digest) (openGives w m (openOf digest c m n)) (misfitted w a m)
+
+-- the registers where open gives this number and this state
+unfoldable pub openedRegisters : ℕ → VMState → List ℕ → List ℕ
+openedRegisters n s w = cond (eqb n 0) (registersOf s) w
+
+-- ---- the helper call; h are the helpers
+
+abbrev pub helped : ℕ → List ℕ → Helped
+helped n h = record { number = n; helpers = h }
+
+-- six zeros; a slice of another length stays
+unfoldable pub noHelpers : List ℕ → List ℕ
+noHelpers h = cond (eqb (length h) 6) (replicate 6 0) h
+
+unfoldable pub helperCall : List ℕ → List ℕ → Code → Memory → Helped
+helperCall w h c m = cond (fitsOf w h 6) (helperVariablesOf (machine (stateOf w) c m)) (helped 1 (noHelpers h))

@@ -24,6 +24,8 @@
 // Each call gives the number too. One of these slices with another length, a clock at or above 2^32 and a mark other than 0 or 1 give 1: then
 // nothing lent is changed, and the answer says so where it has seven words.
 pub mod fits;
+pub mod helper_variables;
+pub mod open;
 pub mod registers;
 pub mod report;
 pub mod run;

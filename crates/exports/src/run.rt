@@ -34,7 +34,7 @@ pub extern "C" fn triton_run(
         (code (now (opcodes .entry)) (now (arguments .entry)) (now (public .entry)) (now (secret .entry)) (now (digests .entry)))
         (memory (now («op_stack» .entry)) (now (origins .entry)) (now (destinations .entry)) (now (addresses .entry)) (now (values .entry)) (now (output .entry))) ⌝ }
 {
-    if fits(registers, answer) {
+    if fits(registers, answer, 7) {
         let state = read_registers(registers);
         let r = run(
             budget,

@@ -34,7 +34,7 @@ pub extern "C" fn triton_step(
         (code (now (opcodes .entry)) (now (arguments .entry)) (now (public .entry)) (now (secret .entry)) (now (digests .entry)))
         (memory (now («op_stack» .entry)) (now (origins .entry)) (now (destinations .entry)) (now (addresses .entry)) (now (values .entry)) (now (output .entry))) (now (calls .entry)) ⌝ }
 {
-    if fits(registers, answer) {
+    if fits(registers, answer, 7) {
         let state = read_registers(registers);
         let r = step(
             state,

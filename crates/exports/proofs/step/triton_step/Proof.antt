@@ -8,7 +8,7 @@ fits-requires : tie.Need-fits-requires
 fits-requires c κs = search needs
 
 read-registers-requires : tie.Need-read-registers-requires
-read-registers-requires c κs = fits-facts _ _ (c .before .before .fits2 .ensures) (c .before .if1 .taken) .registers
+read-registers-requires c κs = fits-facts _ _ 7 (c .before .before .fits2 .ensures) (c .before .if1 .taken) .registers
 
 step-requires : tie.Need-step-requires
 step-requires c κs = search needs
@@ -17,10 +17,10 @@ step-report-requires : tie.Need-step-report-requires
 step-report-requires c κs = search needs
 
 write-registers-requires : tie.Need-write-registers-requires
-write-registers-requires c κs = fits-facts _ _ (c .before .before .before .before .before .before .before .before .before .before .before .before .before .before .before .before .before .before .before .before .before .before .before .before .before .before .before .fits2 .ensures) (c .before .before .before .before .before .before .before .before .before .before .before .before .before .before .before .before .before .before .before .before .before .before .before .before .before .before .if1 .taken) .registers .long
+write-registers-requires c κs = fits-facts _ _ 7 (c .before .before .before .before .before .before .before .before .before .before .before .before .before .before .before .before .before .before .before .before .before .before .before .before .before .before .before .fits2 .ensures) (c .before .before .before .before .before .before .before .before .before .before .before .before .before .before .before .before .before .before .before .before .before .before .before .before .before .before .if1 .taken) .registers .long
 
 write-answer-requires : tie.Need-write-answer-requires
-write-answer-requires c κs = fits-facts _ _ (c .before .before .before .before .before .before .before .before .before .before .before .before .before .before .before .before .before .before .before .before .before .before .before .before .before .before .before .before .before .before .before .fits2 .ensures) (c .before .before .before .before .before .before .before .before .before .before .before .before .before .before .before .before .before .before .before .before .before .before .before .before .before .before .before .before .before .before .if1 .taken) .answer
+write-answer-requires c κs = fits-facts _ _ 7 (c .before .before .before .before .before .before .before .before .before .before .before .before .before .before .before .before .before .before .before .before .before .before .before .before .before .before .before .before .before .before .before .fits2 .ensures) (c .before .before .before .before .before .before .before .before .before .before .before .before .before .before .before .before .before .before .before .before .before .before .before .before .before .before .before .before .before .before .if1 .taken) .answer
 
 turn-down-requires : tie.Need-turn-down-requires
 turn-down-requires c κs = search needs
