@@ -12,3 +12,4 @@ pub mod RecordsLaws
 pub mod RunLaws
 pub mod SettleLaws
 pub mod StepLaws
+pub mod TraceLaws

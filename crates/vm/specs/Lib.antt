@@ -8,3 +8,5 @@ pub mod PlaceBView
 pub mod RecordsView
 pub mod RunView
 pub mod StepView
+pub mod Trace
+pub mod TraceView

@@ -12,3 +12,4 @@ pub mod records;
 pub mod run;
 pub mod settle;
 pub mod step;
+pub mod trace;

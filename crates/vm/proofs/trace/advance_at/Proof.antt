@@ -1,0 +1,59 @@
+-- `vm::trace::advance_at` meets its contract. Assumes nothing.
+use borrow.Author.Needs.{needs}
+use native.Mathlib.Omega.{arith}
+use Rattle.vm.proofs.TraceLaws.{advanced-at}
+use Rattle.vm.proofs.trace.advance_at.Statement.{statement}
+use Rattle.vm.proofs.trace.advance_at.Tie as tie
+
+sub-advance : tie.Need-sub-advance
+sub-advance c = search needs
+
+part-advance-start : tie.Need-part-advance-start
+part-advance-start c = search needs
+
+part-advance-end : tie.Need-part-advance-end
+part-advance-end c = search needs
+
+advance-requires : tie.Need-advance-requires
+advance-requires c κs = search needs
+
+same-length : tie.Need-same-length
+same-length c = search needs
+
+same-length-2 : tie.Need-same-length-2
+same-length-2 c = search needs
+
+same-length-3 : tie.Need-same-length-3
+same-length-3 c = search needs
+
+same-length-4 : tie.Need-same-length-4
+same-length-4 c = search needs
+
+same-length-5 : tie.Need-same-length-5
+same-length-5 c = search needs
+
+same-length-6 : tie.Need-same-length-6
+same-length-6 c = search needs
+
+same-length-7 : tie.Need-same-length-7
+same-length-7 c = search needs
+
+returns : tie.Need-returns
+returns c = advanced-at (omega (arith, c .before .before .before .before .before .before .before .before .before .before .before .before .before .before .before .before .before .before .before .before .before .before .before .before .before .before .before .before .before .before .before .before .before .before .pre .room)) (c .before .before .before .before .before .before .before .before .before .before .before .before .before .before .advance .ensures)
+
+pub advance-at-spec : {M : Type 1} → statement M
+advance-at-spec =
+    tie.close
+    (tie.spec
+    sub-advance
+    part-advance-start
+    part-advance-end
+    advance-requires
+    same-length
+    same-length-2
+    same-length-3
+    same-length-4
+    same-length-5
+    same-length-6
+    same-length-7
+    returns)

@@ -1,0 +1,212 @@
+//! The library's calls beside the original Rust (`oracle bench`) on the same jobs, in one run: nanoseconds a step and ratios
+//! (below 1: the library is faster). The best turn of each counts. Opening and copying the state are not in the time.
+use host::ffi::Library;
+use host::field::P;
+use host::instructions::named;
+use host::job::{Before, Job, Room, Start};
+use host::lent::{answer, ending, Machine, STEP_BYTES};
+use host::oracle::Oracle;
+use host::random::Random;
+use std::hint::black_box;
+use std::time::{Duration, Instant};
+
+const TURNS: usize = 7;
+const TURN: Duration = Duration::from_millis(60);
+/// As the oracle does.
+const STATES_FOR_HELPERS: usize = 256;
+
+struct Case {
+    name: &'static str,
+    job: Job,
+    room: Room,
+}
+
+fn main() {
+    let oracle = Oracle::new("bench");
+    println!("{:<34}{:<18}{:>12}{:>12}{:>8}", "job", "call", "library ns", "Rust ns", "ratio");
+    for case in cases() {
+        report(&case, &oracle);
+    }
+}
+
+/// The calls in turns with the oracle's, so that a slow moment meets both.
+fn report(case: &Case, oracle: &Oracle) {
+    let start = case.job.started(case.room, &Before::default(), &mut Random::new(1));
+    let mut machine = start.clone();
+    let ran = machine.run(&Library, u64::MAX);
+    assert_eq!(ran[answer::ENDING], ending::DONE, "{}: {ran:?}", case.name);
+    let steps = ran[answer::STEPS];
+    let states = first_states(&start);
+    let mut best = [f64::MAX; 4];
+    let mut theirs = [f64::MAX; 3];
+    for _ in 0..TURNS {
+        let turns = [by_run(&start), by_trace(&start, steps), by_step(&start), by_helpers(&states)];
+        best.iter_mut().zip(turns).for_each(|(best, turn)| *best = best.min(turn));
+        for (name, time) in oracle.bench(&case.job, steps.max(20_000)) {
+            let place = ["run", "step", "helpers"].iter().position(|known| *known == name).unwrap();
+            theirs[place] = theirs[place].min(time);
+        }
+    }
+    // running with records is the Rust's loop over step
+    let rows = [
+        ("run", best[0], theirs[0]),
+        ("trace_execution", best[1], theirs[1]),
+        ("step", best[2], theirs[1]),
+        ("helper_variables", best[3], theirs[2]),
+    ];
+    for (call, ours, theirs) in rows {
+        println!("{:<34}{call:<18}{ours:>12.1}{theirs:>12.1}{:>8.2}", case.name, ours / theirs);
+    }
+}
+
+/// Nanoseconds a step of a job taken again and again: `once` takes a turn, and gives its time and steps.
+fn per_step(mut once: impl FnMut() -> (Duration, u64)) -> f64 {
+    let (mut time, mut steps) = (Duration::ZERO, 0);
+    while time < TURN {
+        let (more, taken) = once();
+        time += more;
+        steps += taken;
+    }
+    time.as_nanos() as f64 / steps as f64
+}
+
+fn by_run(start: &Machine) -> f64 {
+    per_step(|| {
+        let mut machine = start.clone();
+        let began = Instant::now();
+        let ran = machine.run(&Library, u64::MAX);
+        (began.elapsed(), ran[answer::STEPS])
+    })
+}
+
+fn by_trace(start: &Machine, steps: u64) -> f64 {
+    let mut log = vec![0; ((steps as usize + 1) * STEP_BYTES).min(1 << 24)];
+    per_step(|| {
+        let mut machine = start.clone();
+        let began = Instant::now();
+        let ran = machine.trace_execution(&Library, u64::MAX, &mut log);
+        (began.elapsed(), ran[answer::STEPS])
+    })
+}
+
+/// Steps from the start on, up to the end or as long as a turn.
+fn by_step(start: &Machine) -> f64 {
+    let mut buffer = [0; STEP_BYTES];
+    per_step(|| {
+        let mut machine = start.clone();
+        let mut taken = 0;
+        let began = Instant::now();
+        while taken % 16 != 0 || began.elapsed() < TURN {
+            if machine.step(&Library, &mut buffer)[answer::NUMBER] != 0 {
+                break;
+            }
+            black_box(&buffer);
+            taken += 1;
+        }
+        (began.elapsed(), taken)
+    })
+}
+
+fn by_helpers(states: &[Machine]) -> f64 {
+    let mut states = states.to_vec();
+    per_step(|| {
+        let began = Instant::now();
+        states.iter_mut().for_each(|state| {
+            black_box(state.helper_variables(&Library));
+        });
+        (began.elapsed(), states.len() as u64)
+    })
+}
+
+fn first_states(start: &Machine) -> Vec<Machine> {
+    let mut machine = start.clone();
+    let mut states = vec![];
+    while states.len() < STATES_FOR_HELPERS {
+        states.push(machine.clone());
+        if machine.run(&Library, 1)[answer::ENDING] == ending::DONE {
+            break;
+        }
+    }
+    states
+}
+
+// ---- jobs
+
+fn cases() -> Vec<Case> {
+    let plain = || loop_of(&["push 5", "push 7", "add", "pop 1", "nop", "swap 3", "swap 3"], 1000);
+    vec![
+        case("plain instructions, small", plain(), 30, 16, 64, 0, 16),
+        case("plain instructions, middle", plain(), 300, 300, 512, 128, 256),
+        case("plain instructions, large", plain(), 1024, 2000, 4096, 1000, 4096),
+        case(
+            "u32 instructions",
+            loop_of(&["push 9", "push 7", "and", "push 3", "div_mod", "lt", "pop 1"], 1000),
+            30,
+            16,
+            64,
+            0,
+            16,
+        ),
+        case("hashing", hashing(), 30, 16, 64, 0, 16),
+        case("memory, 16 cells", memory(16), 30, 16, 64, 16, 16),
+        case("memory, 1,000 cells", memory(1000), 30, 16, 64, 1000, 1000),
+        case("memory, 4,000 cells", memory(4000), 30, 16, 64, 4000, 4096),
+    ]
+}
+
+/// The program at so many slots, with so deep a stack in a slice of that length, and so many cells of those lent.
+fn case(
+    name: &'static str,
+    program: Vec<(u64, u64)>,
+    slots: usize,
+    depth: usize,
+    stack: usize,
+    cells: usize,
+    lent: usize,
+) -> Case {
+    let mut slots_all = program;
+    while slots_all.len() < slots {
+        slots_all.push((named("nop").opcode, 0));
+    }
+    let mut random = Random::new(7);
+    let mut ram: Vec<(u64, u64)> = (1..=cells as u64).map(|address| (address, address)).collect();
+    (1..ram.len()).for_each(|i| ram.swap(i, random.index(i + 1)));
+    let start = Start { stack: vec![0; depth], ..Start::default() };
+    let job = Job { slots: slots_all, ram, budget: 10_000_000, start: Some(start), ..Job::default() };
+    Case { name, job, room: Room { stack, jumps: 16, cells: lent, output: 16 } }
+}
+
+/// A body that leaves the stack as it was, so many times.
+fn loop_of(body: &[&str], times: u64) -> Vec<(u64, u64)> {
+    let mut slots = slots_of(&[&format!("push {times}"), "call 5", "halt"]);
+    slots.extend(slots_of(body));
+    slots.extend(slots_of(&["addi -1", "dup 0", "skiz", "recurse", "return"]));
+    slots
+}
+
+/// Four of eight instructions permute.
+fn hashing() -> Vec<(u64, u64)> {
+    let mut slots = slots_of(&["sponge_init", "push 100", "push 0", "push 0", "push 0", "push 0", "push 0", "push 0"]);
+    let start = slots.len() as u64 + 3;
+    slots.extend(slots_of(&[&format!("call {start}"), "halt"]));
+    slots.extend(slots_of(&["sponge_squeeze", "sponge_absorb", "sponge_squeeze", "sponge_absorb"]));
+    slots.extend(slots_of(&["pick 5", "addi 1", "place 5", "recurse_or_return"]));
+    slots
+}
+
+/// Five words read and written again, from the highest address downward.
+fn memory(cells: u64) -> Vec<(u64, u64)> {
+    loop_of(&["dup 0", "addi 4", "read_mem 5", "addi 1", "write_mem 5", "pop 1"], cells - 4)
+}
+
+/// Slots of instructions as text.
+fn slots_of(text: &[&str]) -> Vec<(u64, u64)> {
+    let mut slots = vec![];
+    for line in text {
+        let (name, argument) = line.split_once(' ').unwrap_or((line, "0"));
+        let argument = if argument == "-1" { P - 1 } else { argument.parse().unwrap() };
+        let instruction = named(name);
+        slots.extend(vec![(instruction.opcode, argument); instruction.size() as usize]);
+    }
+    slots
+}

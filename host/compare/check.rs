@@ -1,0 +1,297 @@
+//! One job three ways: what the oracle reports, the model and the library.
+use crate::ffi::Library;
+use crate::job::{Before, Job, Room};
+use crate::lent::{answer, ending, register, Answer, Calls, Machine, STEP_BYTES};
+use crate::model::Model;
+use crate::oracle::{End, Refused, Report, State};
+use crate::random::Random;
+use crate::records::{bytes_of, Record};
+use std::fmt::Debug;
+
+/// What was compared, and both sides.
+#[derive(Debug)]
+pub struct Difference {
+    pub what: String,
+    pub sides: [(&'static str, String); 2],
+}
+
+type Checked<T> = Result<T, Difference>;
+
+fn same<T: PartialEq + Debug>(what: &str, expected: (&'static str, &T), found: (&'static str, &T)) -> Checked<()> {
+    if expected.1 == found.1 {
+        return Ok(());
+    }
+    let sides = [(expected.0, format!("{:?}", expected.1)), (found.0, format!("{:?}", found.1))];
+    Err(Difference { what: what.to_string(), sides })
+}
+
+/// The same machine twice: for the library and for the model.
+#[derive(Clone)]
+struct Both {
+    library: Machine,
+    model: Machine,
+}
+
+impl Both {
+    fn new(machine: Machine) -> Both {
+        Both { library: machine.clone(), model: machine }
+    }
+
+    /// A call on both, which must come to the same, in what it gives and in every word lent.
+    fn call<T: PartialEq + Debug>(&mut self, what: &str, call: impl Fn(&mut Machine, &dyn Calls) -> T) -> Checked<T> {
+        let by_library = call(&mut self.library, &Library);
+        let by_model = call(&mut self.model, &Model);
+        same(what, ("model", &by_model), ("library", &by_library))?;
+        same(what, ("model", &self.model), ("library", &self.library))?;
+        Ok(by_library)
+    }
+}
+
+/// The least that can be lent: what the start uses.
+pub fn least(job: &Job) -> Room {
+    let start = job.start.as_ref();
+    Room {
+        stack: start.map_or(16, |start| start.stack.len()),
+        jumps: start.map_or(0, |start| start.jumps.len()),
+        cells: job.ram.len(),
+        output: 0,
+    }
+}
+
+/// How much of each slice the job uses at most.
+pub fn used(job: &Job, report: &Report) -> Room {
+    let least = least(job);
+    let most = |size: fn(&State) -> usize| report.tried.iter().map(|step| size(&step.state)).max().unwrap_or(0);
+    Room {
+        stack: most(|state| state.stack.len()).max(least.stack),
+        jumps: most(|state| state.jumps.len()).max(least.jumps),
+        cells: most(|state| state.ram.len()).max(least.cells),
+        output: most(|state| state.output.len()),
+    }
+}
+
+/// Place D, which the oracle has not, put into its report: the first step that does not fit the room, or that would pass the
+/// clock's end, is refused and leaves the state before it.
+pub fn limited(mut report: Report, room: Room) -> Report {
+    let Some(opened) = report.opened.clone() else {
+        return report;
+    };
+    let mut before = opened;
+    for i in 0..report.tried.len() {
+        let step = &report.tried[i];
+        let after = &step.state;
+        let over = [
+            (30, after.stack.len() > room.stack),
+            (31, after.jumps.len() > room.jumps),
+            (32, after.ram.len() > room.cells),
+            (33, after.output.len() > room.output),
+            (34, before.clock == 0xffff_ffff),
+        ];
+        if let (true, Some(&(number, _))) = (step.result.is_ok(), over.iter().find(|limit| limit.1)) {
+            report.tried[i].result = Err(Refused { number, words: [0; 3] });
+            report.tried[i].state = before;
+            report.tried.truncate(i + 1);
+            report.end = End::Refused(number);
+            report.steps = i as u64;
+            report.run_is_same = None;
+            return report;
+        }
+        before = after.clone();
+    }
+    report
+}
+
+/// Everything that is compared of a job in a room. The report has the limits in it.
+pub fn check(job: &Job, report: &Report, room: Room, random: &mut Random) -> Checked<()> {
+    let before = if job.start.is_some() { Before::random(random) } else { Before::default() };
+    let check = Check { job, report, before };
+    let Some(opened) = &report.opened else {
+        return check.refused_opening(room, random);
+    };
+    same("VMState::run", ("expected", &true), ("oracle", &report.run_is_same.unwrap_or(true)))?;
+    let start = match &job.start {
+        Some(_) => Both::new(job.started(room, &check.before, random)),
+        None => {
+            let mut both = Both::new(job.unopened(room, random));
+            let answer = both.call("open", |machine, by| machine.open(by, &job.digest, job.ram.len() as u64))?;
+            same("open", ("expected", &[0; answer::ALL]), ("library", &answer))?;
+            both
+        }
+    };
+    check.state("the start", opened, &job.ram, &start)?;
+    check.steps(start.clone(), random)?;
+    check.runs(&start, random)?;
+    check.traces(&start, random)
+}
+
+struct Check<'a> {
+    job: &'a Job,
+    report: &'a Report,
+    before: Before,
+}
+
+impl Check<'_> {
+    /// The oracle's state, and its cells in the order of the writes, beside the machine (which is the model's too).
+    fn state(&self, what: &str, state: &State, cells: &[(u64, u64)], both: &Both) -> Checked<()> {
+        let before = &self.before;
+        let taken = [before.public.len(), before.secret.len(), before.digests.len()].map(|n| n as u64);
+        let found = State::of(&both.library, taken, before.output.len());
+        same(what, ("oracle", state), ("library", &found))?;
+        let machine = &both.library;
+        let used = machine.registers[register::CELLS] as usize;
+        let found: Vec<_> = machine.addresses.iter().copied().zip(machine.values.iter().copied()).take(used).collect();
+        same(&format!("{what}, cells in order"), ("oracle", &cells.to_vec()), ("library", &found))
+    }
+
+    fn steps(&self, mut both: Both, random: &mut Random) -> Checked<()> {
+        let mut cells = self.job.ram.clone();
+        let spare = random.index(3);
+        for (i, step) in self.report.tried.iter().enumerate() {
+            let what = format!("step {i}");
+            let helpers = both.call(&format!("{what}, helper variables"), |machine, by| machine.helper_variables(by))?;
+            same(&format!("{what}, helper variables"), ("oracle", &(0, step.helpers)), ("library", &helpers))?;
+
+            let filling = random.next() as u8;
+            let (answer, buffer) = both.call(&what, |machine, by| {
+                let mut buffer = vec![filling; STEP_BYTES + spare];
+                (machine.step(by, &mut buffer), buffer)
+            })?;
+            let mut bytes = match &step.result {
+                Ok(records) => bytes_of(records),
+                Err(_) => vec![],
+            };
+            same(&format!("{what}, answer"), ("oracle", &answer_of(&step.result, 1, bytes.len())), ("library", &answer))?;
+            bytes.resize(buffer.len(), filling);
+            same(&format!("{what}, bytes"), ("oracle", &bytes), ("library", &buffer))?;
+            if let Ok(records) = &step.result {
+                write_cells(&mut cells, records);
+            }
+            self.state(&what, &step.state, &cells, &both)?;
+        }
+        // behind a refusal: a skiz that dropped its word may go on; here only the model answers
+        for _ in 0..3 {
+            both.call("a step behind the end", |machine, by| {
+                let mut buffer = [0; STEP_BYTES];
+                (machine.step(by, &mut buffer), buffer)
+            })?;
+        }
+        Ok(())
+    }
+
+    /// The steps, the answer and the state of a run with this budget and, with a log, this length of it.
+    fn run_to(&self, budget: u64, log: Option<usize>) -> (Answer, &State, Vec<(u64, u64)>, Vec<u8>) {
+        let mut state = self.report.opened.as_ref().unwrap();
+        let (mut cells, mut bytes) = (self.job.ram.clone(), vec![]);
+        let mut taken = 0;
+        let length = |bytes: &Vec<u8>| if log.is_some() { bytes.len() as u64 } else { 0 };
+        let answer = loop {
+            let ended = |ending, bytes: &Vec<u8>| [ending, 0, 0, 0, 0, taken as u64, length(bytes)];
+            if state.halted {
+                break ended(ending::DONE, &bytes);
+            }
+            if taken as u64 == budget {
+                break ended(ending::SPENT, &bytes);
+            }
+            if log.is_some_and(|log| log - bytes.len() < STEP_BYTES) {
+                break ended(ending::FULL, &bytes);
+            }
+            let step = &self.report.tried[taken];
+            state = &step.state;
+            match &step.result {
+                Ok(records) => {
+                    bytes.extend(bytes_of(records));
+                    write_cells(&mut cells, records);
+                    taken += 1;
+                }
+                Err(_) => {
+                    let mut answer = answer_of(&step.result, 0, 0);
+                    answer[answer::STEPS] = taken as u64;
+                    answer[answer::BYTES] = length(&bytes);
+                    break answer;
+                }
+            }
+        };
+        (answer, state, cells, bytes)
+    }
+
+    /// Budgets: none, all, one less, one between, and no bound where the job ends by itself.
+    fn runs(&self, start: &Both, random: &mut Random) -> Checked<()> {
+        let steps = self.report.steps;
+        let mut budgets = vec![0, steps, steps.saturating_sub(1), random.between(0, steps)];
+        if self.report.end != End::Spent {
+            budgets.extend([steps + 1, u64::MAX]);
+        }
+        budgets.dedup();
+        for budget in budgets {
+            let what = format!("run, budget {budget}");
+            let mut both = start.clone();
+            let answer = both.call(&what, |machine, by| machine.run(by, budget))?;
+            let (expected, state, cells, _) = self.run_to(budget, None);
+            same(&what, ("oracle", &expected), ("library", &answer))?;
+            self.state(&what, state, &cells, &both)?;
+        }
+        Ok(())
+    }
+
+    /// Logs: room for all, one byte less than a step needs at the start, and one between.
+    fn traces(&self, start: &Both, random: &mut Random) -> Checked<()> {
+        let budget = if self.report.end == End::Spent { self.report.steps } else { random.pick(&[u64::MAX, self.report.steps]) };
+        let all = self.run_to(budget, Some(usize::MAX)).3.len();
+        for room in [all + STEP_BYTES, STEP_BYTES - 1, random.index(all + 2 * STEP_BYTES)] {
+            let what = format!("trace_execution, budget {budget}, log of {room}");
+            let filling = random.next() as u8;
+            let mut both = start.clone();
+            let (answer, log) = both.call(&what, |machine, by| {
+                let mut log = vec![filling; room];
+                (machine.trace_execution(by, budget, &mut log), log)
+            })?;
+            let (expected, state, cells, mut bytes) = self.run_to(budget, Some(room));
+            same(&what, ("oracle", &expected), ("library", &answer))?;
+            bytes.resize(room, filling);
+            same(&format!("{what}, bytes"), ("oracle", &bytes), ("library", &log))?;
+            self.state(&what, state, &cells, &both)?;
+        }
+        Ok(())
+    }
+
+    /// The number by which the job does not open, at every call that is handed it.
+    fn refused_opening(&self, room: Room, random: &mut Random) -> Checked<()> {
+        let End::Refused(number) = self.report.end else {
+            panic!("the oracle refused no opening");
+        };
+        let expected = [ending::REFUSED, number, 0, 0, 0, 0, 0];
+        if self.job.start.is_none() {
+            let mut both = Both::new(self.job.unopened(room, random));
+            let answer = both.call("open", |machine, by| machine.open(by, &self.job.digest, self.job.ram.len() as u64))?;
+            return same("open", ("oracle", &expected), ("library", &answer));
+        }
+        let mut both = Both::new(self.job.started(room, &self.before, random));
+        let answer = both.call("step", |machine, by| machine.step(by, &mut [0; STEP_BYTES]))?;
+        same("step", ("oracle", &expected), ("library", &answer))?;
+        let answer = both.call("run", |machine, by| machine.run(by, 1))?;
+        same("run", ("oracle", &expected), ("library", &answer))?;
+        let answer = both.call("trace_execution", |machine, by| machine.trace_execution(by, 1, &mut [0; STEP_BYTES]))?;
+        same("trace_execution", ("oracle", &expected), ("library", &answer))?;
+        let helpers = both.call("helper variables", |machine, by| machine.helper_variables(by))?;
+        same("helper variables", ("oracle", &(number, [0; 6])), ("library", &helpers))
+    }
+}
+
+fn answer_of(result: &Result<Vec<Record>, Refused>, steps: u64, bytes: usize) -> Answer {
+    match result {
+        Ok(_) => [ending::DONE, 0, 0, 0, 0, steps, bytes as u64],
+        Err(Refused { number, words }) => [ending::REFUSED, *number, words[0], words[1], words[2], 0, 0],
+    }
+}
+
+/// A new address goes behind the last cell.
+pub fn write_cells(cells: &mut Vec<(u64, u64)>, records: &[Record]) {
+    for record in records {
+        if let &Record::Ram { address, value, write: true, .. } = record {
+            match cells.iter_mut().find(|cell| cell.0 == address) {
+                Some(cell) => cell.1 = value,
+                None => cells.push((address, value)),
+            }
+        }
+    }
+}

@@ -1,0 +1,297 @@
+//! Document 01's calls on plain Rust containers: an implementation of its own, written from the document and the facts of the
+//! instruction set, to compare with where no Rust answers (places A and D) and on every input of the fuzz run.
+mod execute;
+mod helpers;
+mod place_a;
+
+use crate::instructions::decode;
+use crate::lent::{answer, ending, register, Calls, Code, Memory, STEP_BYTES};
+use crate::records::{bytes_of, Record};
+use crate::tip5::State;
+use place_a::{place_a, Handed};
+
+/// A refusal's number and the words that it carries.
+#[derive(Clone, Copy, Debug, PartialEq, Eq)]
+pub struct Refusal {
+    pub number: u64,
+    pub words: [u64; 3],
+}
+
+pub fn refuse<T>(number: u64, words: [u64; 3]) -> Result<T, Refusal> {
+    Err(Refusal { number, words })
+}
+
+/// The machine's state: the used words of what is lent, and the registers.
+#[derive(Clone)]
+pub struct Vm {
+    clock: u64,
+    pointer: u64,
+    halted: bool,
+    stack: Vec<u64>,
+    jumps: Vec<(u64, u64)>,
+    ram: Vec<(u64, u64)>,
+    output: Vec<u64>,
+    publics: usize,
+    secrets: usize,
+    digests: usize,
+    sponge: Option<State>,
+}
+
+/// How many words or entries the lent slices hold.
+struct Room {
+    stack: usize,
+    jumps: usize,
+    cells: usize,
+    output: usize,
+}
+
+impl Room {
+    fn of(memory: &Memory) -> Room {
+        Room {
+            stack: memory.op_stack.len(),
+            jumps: memory.origins.len(),
+            cells: memory.addresses.len(),
+            output: memory.output.len(),
+        }
+    }
+}
+
+impl Vm {
+    fn new(registers: &[u64], memory: &Memory) -> Vm {
+        let count = |place: usize| registers[place] as usize;
+        let pairs = |left: &[u64], right: &[u64], n: usize| left[..n].iter().copied().zip(right[..n].iter().copied()).collect();
+        Vm {
+            clock: registers[register::CLOCK],
+            pointer: registers[register::POINTER],
+            halted: registers[register::HALTED] == 1,
+            stack: memory.op_stack[..count(register::DEPTH)].to_vec(),
+            jumps: pairs(memory.origins, memory.destinations, count(register::JUMPS)),
+            ram: pairs(memory.addresses, memory.values, count(register::CELLS)),
+            output: memory.output[..count(register::OUTPUTS)].to_vec(),
+            publics: count(register::PUBLICS),
+            secrets: count(register::SECRETS),
+            digests: count(register::DIGESTS),
+            sponge: (registers[register::SPONGE_SET] == 1).then(|| registers[register::SPONGE..].try_into().unwrap()),
+        }
+    }
+
+    /// Back into what is lent. The words of a sponge that is not set stay.
+    fn store(&self, registers: &mut [u64], memory: &mut Memory) {
+        registers[register::CLOCK] = self.clock;
+        registers[register::POINTER] = self.pointer;
+        registers[register::DEPTH] = self.stack.len() as u64;
+        registers[register::JUMPS] = self.jumps.len() as u64;
+        registers[register::CELLS] = self.ram.len() as u64;
+        registers[register::OUTPUTS] = self.output.len() as u64;
+        registers[register::PUBLICS] = self.publics as u64;
+        registers[register::SECRETS] = self.secrets as u64;
+        registers[register::DIGESTS] = self.digests as u64;
+        registers[register::HALTED] = self.halted.into();
+        if let Some(words) = self.sponge {
+            registers[register::SPONGE_SET] = 1;
+            registers[register::SPONGE..].copy_from_slice(&words);
+        }
+        memory.op_stack.fill(0);
+        memory.op_stack[..self.stack.len()].copy_from_slice(&self.stack);
+        memory.origins.fill(0);
+        memory.destinations.fill(0);
+        for (i, &(origin, destination)) in self.jumps.iter().enumerate() {
+            memory.origins[i] = origin;
+            memory.destinations[i] = destination;
+        }
+        for (i, &(address, value)) in self.ram.iter().enumerate() {
+            memory.addresses[i] = address;
+            memory.values[i] = value;
+        }
+        memory.output[..self.output.len()].copy_from_slice(&self.output);
+    }
+
+    /// One step behind place A. Refused, nothing is changed, but that a refused skiz has dropped its word.
+    fn step(&mut self, code: Code, room: &Room) -> Result<Vec<Record>, Refusal> {
+        // place B
+        if self.halted {
+            return refuse(10, [0; 3]);
+        }
+        if self.pointer >= code.opcodes.len() as u64 {
+            return refuse(11, [0; 3]);
+        }
+        let at = self.pointer as usize;
+        let (instruction, argument) = (decode(code.opcodes[at]).unwrap(), code.arguments[at]);
+        let depth_after = self.stack.len() as i64 + instruction.deeper_by(argument);
+        if depth_after < 16 {
+            return refuse(12, [0; 3]);
+        }
+
+        // place C
+        let mut after = self.clone();
+        let mut records = match after.execute(instruction, argument, code) {
+            Ok(records) => records,
+            Err(refusal) => {
+                if instruction.name == "skiz" {
+                    self.stack.pop();
+                }
+                return Err(refusal);
+            }
+        };
+        assert_eq!(after.stack.len() as i64, depth_after);
+
+        // place D
+        for (number, over) in [
+            (30, after.stack.len() > room.stack),
+            (31, after.jumps.len() > room.jumps),
+            (32, after.ram.len() > room.cells),
+            (33, after.output.len() > room.output),
+            (34, self.clock == 0xffff_ffff),
+        ] {
+            if over {
+                return refuse(number, [0; 3]);
+            }
+        }
+
+        after.clock += 1;
+        records.extend(self.stack_records(&after));
+        *self = after;
+        Ok(records)
+    }
+
+    /// A write for each word won below the top sixteen, upward, or a read for each lost, downward.
+    fn stack_records(&self, after: &Vm) -> Vec<Record> {
+        let (before, now) = (self.stack.len(), after.stack.len());
+        let record = |pointer: usize, write: bool, stack: &[u64]| Record::Stack {
+            clock: self.clock,
+            pointer: pointer as u64,
+            write,
+            value: stack[pointer - 16],
+        };
+        let writes = (before..now).map(|pointer| record(pointer, true, &after.stack));
+        let reads = (now..before).rev().map(|pointer| record(pointer, false, &self.stack));
+        writes.chain(reads).collect()
+    }
+}
+
+pub struct Model;
+
+impl Calls for Model {
+    fn open(&self, registers: &mut [u64], answer: &mut [u64], digest: &[u64], cells: u64, code: Code, memory: Memory) -> u64 {
+        let number = place_a(&Handed::Open { registers, answer, digest, cells }, code, &memory);
+        if number == 0 {
+            memory.op_stack.fill(0);
+            memory.origins.fill(0);
+            memory.destinations.fill(0);
+            for i in 0..5 {
+                memory.op_stack[i] = digest[4 - i];
+            }
+            registers.fill(0);
+            registers[register::DEPTH] = 16;
+            registers[register::CELLS] = cells;
+        }
+        answered(answer, ending::DONE, refused(number), 0, 0)
+    }
+
+    fn step(&self, registers: &mut [u64], answer: &mut [u64], code: Code, mut memory: Memory, calls: &mut [u8]) -> u64 {
+        let number = place_a(&Handed::Step { registers, answer, calls }, code, &memory);
+        if number != 0 {
+            return answered(answer, 0, refused(number), 0, 0);
+        }
+        let mut vm = Vm::new(registers, &memory);
+        let stepped = vm.step(code, &Room::of(&memory));
+        vm.store(registers, &mut memory);
+        match stepped {
+            Ok(records) => {
+                let bytes = bytes_of(&records);
+                calls[..bytes.len()].copy_from_slice(&bytes);
+                answered(answer, ending::DONE, Ok(()), 1, bytes.len())
+            }
+            Err(refusal) => answered(answer, 0, Err(refusal), 0, 0),
+        }
+    }
+
+    fn run(&self, registers: &mut [u64], answer: &mut [u64], budget: u64, code: Code, memory: Memory) -> u64 {
+        run(registers, answer, budget, code, memory, None)
+    }
+
+    fn trace_execution(
+        &self,
+        registers: &mut [u64],
+        answer: &mut [u64],
+        budget: u64,
+        code: Code,
+        memory: Memory,
+        log: &mut [u8],
+    ) -> u64 {
+        run(registers, answer, budget, code, memory, Some(log))
+    }
+
+    fn helper_variables(&self, registers: &[u64], helpers: &mut [u64], code: Code, memory: Memory) -> u64 {
+        let number = place_a(&Handed::Helpers { registers, helpers }, code, &memory);
+        if helpers.len() == 6 {
+            helpers.fill(0);
+        }
+        if number == 0 {
+            let words = Vm::new(registers, &memory).helpers(code);
+            helpers[..words.len()].copy_from_slice(&words);
+        }
+        number
+    }
+}
+
+/// `run`, and with a log `trace_execution`: halted is tried first, then spent, then whether the log is full, then a step.
+fn run(
+    registers: &mut [u64],
+    answer: &mut [u64],
+    budget: u64,
+    code: Code,
+    mut memory: Memory,
+    mut log: Option<&mut [u8]>,
+) -> u64 {
+    let number = place_a(&Handed::Run { registers, answer, log: log.as_deref().unwrap_or(&[]) }, code, &memory);
+    if number != 0 {
+        return answered(answer, 0, refused(number), 0, 0);
+    }
+    let room = Room::of(&memory);
+    let mut vm = Vm::new(registers, &memory);
+    let (mut steps, mut bytes) = (0, 0);
+    let (ending, end) = loop {
+        if vm.halted {
+            break (ending::DONE, Ok(()));
+        }
+        if steps == budget {
+            break (ending::SPENT, Ok(()));
+        }
+        if log.as_ref().is_some_and(|log| log.len() - bytes < STEP_BYTES) {
+            break (ending::FULL, Ok(()));
+        }
+        match vm.step(code, &room) {
+            Ok(records) => {
+                steps += 1;
+                if let Some(log) = &mut log {
+                    let new = bytes_of(&records);
+                    log[bytes..bytes + new.len()].copy_from_slice(&new);
+                    bytes += new.len();
+                }
+            }
+            Err(refusal) => break (ending::REFUSED, Err(refusal)),
+        }
+    };
+    vm.store(registers, &mut memory);
+    answered(answer, ending, end, steps, bytes)
+}
+
+fn refused(number: u64) -> Result<(), Refusal> {
+    match number {
+        0 => Ok(()),
+        _ => refuse(number, [0; 3]),
+    }
+}
+
+/// Fills the answer, if it has the length of one, and gives the number.
+fn answered(answer: &mut [u64], ending: u64, end: Result<(), Refusal>, steps: u64, bytes: usize) -> u64 {
+    let (ending, Refusal { number, words }) = match end {
+        Ok(()) => (ending, Refusal { number: 0, words: [0; 3] }),
+        Err(refusal) => (ending::REFUSED, refusal),
+    };
+    if answer.len() == answer::ALL {
+        answer.copy_from_slice(&[ending, number, words[0], words[1], words[2], steps, bytes as u64]);
+    }
+    number
+}

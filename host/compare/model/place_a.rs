@@ -1,0 +1,107 @@
+//! Place A: what is wrong with what a call is handed, by numbers 1 to 5, each tried over everything before the next.
+use crate::field::P;
+use crate::instructions::decode;
+use crate::lent::{answer, register, Code, Memory, LONGEST, STEP_BYTES};
+
+/// What a call takes besides code and memory.
+pub enum Handed<'a> {
+    Open { registers: &'a [u64], answer: &'a [u64], digest: &'a [u64], cells: u64 },
+    Step { registers: &'a [u64], answer: &'a [u64], calls: &'a [u8] },
+    Run { registers: &'a [u64], answer: &'a [u64], log: &'a [u8] },
+    Helpers { registers: &'a [u64], helpers: &'a [u64] },
+}
+
+/// The number; 0 where nothing is wrong.
+pub fn place_a(handed: &Handed, code: Code, memory: &Memory) -> u64 {
+    if !lengths_fit(handed, code, memory) {
+        return 1;
+    }
+    // the registers handed in; open has none, but a count of cells
+    let (registers, digest, cells) = match *handed {
+        Handed::Open { digest, cells, .. } => (None, digest, cells),
+        Handed::Step { registers, .. } | Handed::Run { registers, .. } | Handed::Helpers { registers, .. } => {
+            (Some(registers), &[][..], registers[register::CELLS])
+        }
+    };
+    if registers.is_some_and(|r| r[register::CLOCK] >= 1 << 32 || r[register::HALTED] > 1 || r[register::SPONGE_SET] > 1) {
+        return 1;
+    }
+
+    let mut words = vec![code.arguments, code.public, code.secret, code.digests, digest];
+    words.extend([used(memory.addresses, cells), used(memory.values, cells)]);
+    if let Some(r) = registers {
+        words.extend([
+            used(memory.op_stack, r[register::DEPTH]),
+            &r[register::SPONGE..],
+            &r[register::POINTER..=register::POINTER],
+        ]);
+        words.extend([used(memory.origins, r[register::JUMPS]), used(memory.destinations, r[register::JUMPS])]);
+    }
+    if words.iter().any(|slice| slice.iter().any(|&word| word >= P)) {
+        return 2;
+    }
+
+    if code.opcodes.iter().any(|&opcode| decode(opcode).is_none()) {
+        return 3;
+    }
+    if code.opcodes.iter().zip(code.arguments).any(|(&opcode, &argument)| !decode(opcode).unwrap().allows(argument)) {
+        return 4;
+    }
+
+    let outside = registers.is_some_and(|r| {
+        r[register::DEPTH] < 16
+            || r[register::DEPTH] > memory.op_stack.len() as u64
+            || r[register::JUMPS] > memory.origins.len() as u64
+            || r[register::OUTPUTS] > memory.output.len() as u64
+            || r[register::PUBLICS] > code.public.len() as u64
+            || r[register::SECRETS] > code.secret.len() as u64
+            || r[register::DIGESTS] > code.digests.len() as u64 / 5
+            || has_unused(memory.op_stack, r[register::DEPTH])
+            || has_unused(memory.origins, r[register::JUMPS])
+            || has_unused(memory.destinations, r[register::JUMPS])
+    });
+    if outside || cells > memory.addresses.len() as u64 || stands_twice(used(memory.addresses, cells)) {
+        return 5;
+    }
+    0
+}
+
+fn lengths_fit(handed: &Handed, code: Code, memory: &Memory) -> bool {
+    let own = match *handed {
+        Handed::Open { registers, answer, digest, .. } => {
+            answer.len() == answer::ALL && registers.len() == register::ALL && digest.len() == 5
+        }
+        Handed::Step { registers, answer, calls } => {
+            answer.len() == answer::ALL && registers.len() == register::ALL && (STEP_BYTES..=LONGEST).contains(&calls.len())
+        }
+        Handed::Run { registers, answer, log } => {
+            answer.len() == answer::ALL && registers.len() == register::ALL && log.len() <= LONGEST
+        }
+        Handed::Helpers { registers, helpers } => helpers.len() == 6 && registers.len() == register::ALL,
+    };
+    own && code.opcodes.len().max(code.arguments.len()) <= LONGEST
+        && code.public.len().max(code.secret.len()).max(code.digests.len()) <= LONGEST
+        && memory.origins.len().max(memory.destinations.len()) <= LONGEST
+        && memory.addresses.len().max(memory.values.len()).max(memory.output.len()) <= LONGEST
+        && (16..=LONGEST).contains(&memory.op_stack.len())
+        && code.opcodes.len() == code.arguments.len()
+        && memory.origins.len() == memory.destinations.len()
+        && memory.addresses.len() == memory.values.len()
+        && code.digests.len() % 5 == 0
+}
+
+/// The words whose index is below the count, or all.
+fn used(slice: &[u64], count: u64) -> &[u64] {
+    &slice[..slice.len().min(usize::try_from(count).unwrap_or(usize::MAX))]
+}
+
+/// Whether a word behind the used ones is not 0.
+fn has_unused(slice: &[u64], count: u64) -> bool {
+    slice[used(slice, count).len()..].iter().any(|&word| word != 0)
+}
+
+fn stands_twice(addresses: &[u64]) -> bool {
+    let mut sorted = addresses.to_vec();
+    sorted.sort_unstable();
+    sorted.windows(2).any(|pair| pair[0] == pair[1])
+}

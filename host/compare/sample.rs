@@ -1,0 +1,221 @@
+//! sample write FILE: a fixed list of single steps with the oracle's answers, for programs that have no oracle at hand.
+//! sample check FILE: the list read back, and each entry taken by the model and the library.
+use host::check::{least, limited, used, write_cells};
+use host::entries::{decode_all, encode_all, fits, most, Entry};
+use host::ffi::Library;
+use host::instructions::{Instruction, ALL};
+use host::job::{Before, Job, Room};
+use host::lent::{answer, register, Calls, Machine, STEP_BYTES};
+use host::model::Model;
+use host::oracle::{End, Oracle, Refused, Report, State};
+use host::random::Random;
+use host::records::bytes_of;
+use host::states::{broken, single};
+use std::collections::BTreeMap;
+use std::process::exit;
+
+const SEED: u64 = 20;
+/// How many single steps are tried of each instruction, and how many jobs that do not open.
+const TRIED: usize = 400;
+const BROKEN: usize = 400;
+
+fn main() {
+    let words: Vec<String> = std::env::args().skip(1).collect();
+    match words.iter().map(String::as_str).collect::<Vec<_>>()[..] {
+        ["write", file] => write(file),
+        ["check", file] => check(file),
+        _ => {
+            eprintln!("sample write FILE\nsample check FILE");
+            exit(2)
+        }
+    }
+}
+
+fn write(file: &str) {
+    let mut random = Random::new(SEED);
+    let mut jobs: Vec<Job> = vec![];
+    for instruction in &ALL {
+        jobs.extend((0..TRIED).map(|_| trimmed(single(&mut random, instruction), instruction, &mut random)));
+    }
+    jobs.extend((0..BROKEN).map(|_| broken(&mut random)).filter(|job| job.start.is_some()));
+    let mut entries = vec![];
+    let mut chosen = Chosen::default();
+    Oracle::new("sample").run(0, &jobs, |place, report| {
+        let job = &jobs[place];
+        let name = ALL.get(place / TRIED).map_or("broken", |instruction| instruction.name);
+        let room = room(job, &report, &mut random);
+        let report = limited(report, room);
+        let entry = entry(job, &report, room, &mut random);
+        if fits(&entry.before) && entry.encode().len() <= most::ENTRY && chosen.takes(name, &entry) {
+            entries.push(entry);
+        }
+    });
+    let bytes = encode_all(&entries);
+    std::fs::write(file, &bytes).unwrap();
+    chosen.print();
+    println!("{} entries, {} bytes", entries.len(), bytes.len());
+    let longest = entries.iter().map(|entry| entry.encode().len()).max();
+    println!("the longest entry has {} bytes", longest.unwrap());
+}
+
+/// Without what the instruction has nothing to do with, most times.
+fn trimmed(mut job: Job, instruction: &Instruction, random: &mut Random) -> Job {
+    let name = instruction.name;
+    let start = job.start.as_mut().expect("a single step has a start");
+    if !(name.contains("mem") || name.contains("dot")) {
+        job.ram.truncate(if random.once_in(10) { 2 } else { 0 });
+    }
+    if !name.contains("sponge") && !random.once_in(20) {
+        start.sponge = None;
+    }
+    if name != "read_io" && !random.once_in(10) {
+        job.public.clear();
+    }
+    if name != "divine" && !random.once_in(10) {
+        job.secret.clear();
+    }
+    if name != "merkle_step" && !random.once_in(20) {
+        job.digests.clear();
+    }
+    job
+}
+
+/// One more than is used, or just that, or one less.
+fn room(job: &Job, report: &Report, random: &mut Random) -> Room {
+    let (most, least) = (used(job, report), least(job));
+    let mut near = |most: usize, least: usize| (most + random.index(8) / 3).max(least + 1) - 1;
+    Room {
+        stack: near(most.stack, least.stack).max(16),
+        jumps: near(most.jumps, least.jumps),
+        cells: near(most.cells, least.cells),
+        output: near(most.output, least.output),
+    }
+}
+
+/// What the oracle says of the job's one step, in the library's shape.
+fn entry(job: &Job, report: &Report, room: Room, random: &mut Random) -> Entry {
+    let mut before = Before::random(random);
+    if !random.once_in(4) {
+        before = Before { sponge: before.sponge.map(|_| 0), ..Before::default() };
+    }
+    let mut start = job.started(room, &before, random);
+    let [cells, outputs] = [register::CELLS, register::OUTPUTS].map(|place| start.registers[place] as usize);
+    start.addresses[cells..].fill(0);
+    start.values[cells..].fill(0);
+    start.output[outputs..].fill(0);
+
+    let Some(step) = report.tried.first() else {
+        let End::Refused(number) = report.end else {
+            panic!("the oracle refused no opening");
+        };
+        return Entry { after: start.clone(), before: start, number, words: [0; 3], helpers: [0; 6], calls: vec![] };
+    };
+    let (Refused { number, words }, records) = match &step.result {
+        Ok(records) => (Refused { number: 0, words: [0; 3] }, &records[..]),
+        Err(refused) => (refused.clone(), &[][..]),
+    };
+    let mut cells = job.ram.clone();
+    write_cells(&mut cells, records);
+    let after = after(&start, &step.state, &cells, &before);
+    Entry { before: start, number, words, after, helpers: step.helpers, calls: bytes_of(records) }
+}
+
+/// The machine in the oracle's state.
+fn after(start: &Machine, state: &State, cells: &[(u64, u64)], before: &Before) -> Machine {
+    let mut machine = start.clone();
+    let r = &mut machine.registers;
+    r[register::CLOCK] = state.clock;
+    r[register::POINTER] = state.pointer;
+    r[register::DEPTH] = state.stack.len() as u64;
+    r[register::JUMPS] = state.jumps.len() as u64;
+    r[register::CELLS] = cells.len() as u64;
+    r[register::OUTPUTS] = (before.output.len() + state.output.len()) as u64;
+    r[register::PUBLICS] = before.public.len() as u64 + state.taken[0];
+    r[register::SECRETS] = before.secret.len() as u64 + state.taken[1];
+    r[register::DIGESTS] = before.digests.len() as u64 + state.taken[2];
+    r[register::HALTED] = state.halted.into();
+    if !state.sponge.is_empty() {
+        r[register::SPONGE_SET] = 1;
+        r[register::SPONGE..].copy_from_slice(&state.sponge);
+    }
+    machine.op_stack.fill(0);
+    machine.op_stack[..state.stack.len()].copy_from_slice(&state.stack);
+    machine.origins.fill(0);
+    machine.destinations.fill(0);
+    for (i, &(origin, destination)) in state.jumps.iter().enumerate() {
+        machine.origins[i] = origin;
+        machine.destinations[i] = destination;
+    }
+    for (i, &(address, value)) in cells.iter().enumerate() {
+        machine.addresses[i] = address;
+        machine.values[i] = value;
+    }
+    let put = before.output.len();
+    machine.output[put..put + state.output.len()].copy_from_slice(&state.output);
+    machine
+}
+
+/// How many entries there are of each instruction and number.
+#[derive(Default)]
+struct Chosen(BTreeMap<(String, u64), usize>);
+
+impl Chosen {
+    /// Whether a further entry of its kind is wanted.
+    fn takes(&mut self, name: &str, entry: &Entry) -> bool {
+        let number = entry.number;
+        // a number of place B, and the clock's end, have nothing to do with the instruction, save 12 and skiz's 11
+        let plain = matches!(number, 2..=5 | 10 | 34) || number == 11 && name != "skiz";
+        let (kind, most) = match number {
+            0 => (name, if name == "broken" { 0 } else { 7 }),
+            _ if plain => ("any", if number == 2 { 16 } else { 6 }),
+            12 | 30 => (name, 1),
+            19 => (name, 8),
+            _ => (name, 3),
+        };
+        let count = self.0.entry((kind.to_string(), number)).or_default();
+        *count += 1;
+        if *count > most {
+            *count = most;
+            return false;
+        }
+        true
+    }
+
+    fn print(&self) {
+        let mut by_number = BTreeMap::<u64, usize>::new();
+        self.0.iter().for_each(|((_, number), count)| *by_number.entry(*number).or_default() += count);
+        for (number, count) in by_number {
+            println!("number {number:<4}{count:>5}");
+        }
+        let least = ALL.iter().map(|instruction| self.0.get(&(instruction.name.to_string(), 0)).copied().unwrap_or(0)).min();
+        println!("each instruction taken at least {} times", least.unwrap());
+    }
+}
+
+fn check(file: &str) {
+    let Some(entries) = decode_all(&std::fs::read(file).unwrap()) else {
+        println!("{file}: not a list of entries");
+        exit(1)
+    };
+    for (i, entry) in entries.iter().enumerate() {
+        for (name, by) in [("model", &Model as &dyn Calls), ("library", &Library)] {
+            let found = taken(entry, by);
+            if found != *entry {
+                println!("entry {i}, {name}:\nwanted {entry:?}\nfound  {found:?}");
+                exit(1)
+            }
+        }
+    }
+    println!("{} entries, taken alike by model and library", entries.len());
+}
+
+/// The entry as a step by this side would have it.
+fn taken(entry: &Entry, by: &dyn Calls) -> Entry {
+    let mut machine = entry.before.clone();
+    let (_, helpers) = machine.helper_variables(by);
+    let mut buffer = vec![0; STEP_BYTES];
+    let answer = machine.step(by, &mut buffer);
+    buffer.truncate(answer[answer::BYTES] as usize);
+    let words = answer[answer::WORDS..answer::STEPS].try_into().unwrap();
+    Entry { before: entry.before.clone(), number: answer[answer::NUMBER], words, after: machine, helpers, calls: buffer }
+}

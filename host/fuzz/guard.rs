@@ -1,0 +1,113 @@
+//! Lent slices between guards, and one call on them.
+use crate::input::{Export, Input};
+use host::lent::{Calls, Code, Memory};
+
+const SIDE: usize = 4;
+
+/// A slice with guards in front and behind.
+struct Guarded<T> {
+    all: Vec<T>,
+    guard: T,
+}
+
+impl<T: Copy + PartialEq> Guarded<T> {
+    fn new(guard: T) -> Self {
+        Guarded { all: vec![], guard }
+    }
+
+    fn set(&mut self, elements: &[T]) {
+        self.all.clear();
+        self.all.extend([self.guard; SIDE]);
+        self.all.extend(elements);
+        self.all.extend([self.guard; SIDE]);
+    }
+
+    fn slice(&mut self) -> &mut [T] {
+        let end = self.all.len() - SIDE;
+        &mut self.all[SIDE..end]
+    }
+
+    fn inside(&self) -> &[T] {
+        &self.all[SIDE..self.all.len() - SIDE]
+    }
+
+    fn holds(&self, elements: &[T]) -> bool {
+        self.inside() == elements
+    }
+
+    fn is_intact(&self) -> bool {
+        let end = self.all.len() - SIDE;
+        self.all[..SIDE].iter().chain(&self.all[end..]).all(|element| *element == self.guard)
+    }
+}
+
+/// Everything that a call is lent, each slice between its guards.
+pub struct Arena {
+    slices: [Guarded<u64>; 12],
+    /// The answer, or the helper variables.
+    answer: Guarded<u64>,
+    digest: Guarded<u64>,
+    bytes: Guarded<u8>,
+}
+
+impl Arena {
+    pub fn new(guard: u64) -> Arena {
+        let words = || Guarded::new(guard);
+        Arena { slices: core::array::from_fn(|_| words()), answer: words(), digest: words(), bytes: Guarded::new(guard as u8) }
+    }
+
+    /// Calls on a copy of the input, and gives the number.
+    pub fn call(&mut self, export: Export, input: &Input, by: &dyn Calls) -> u64 {
+        for (guarded, slice) in self.slices.iter_mut().zip(input.machine.slices()) {
+            guarded.set(slice);
+        }
+        self.answer.set(&input.answer);
+        self.digest.set(&input.digest);
+        self.bytes.set(&input.bytes);
+        let [registers, opcodes, arguments, public, secret, digests, op_stack, origins, destinations, addresses, values, output] =
+            self.slices.each_mut().map(|guarded| guarded.slice());
+        let code = Code { opcodes, arguments, public, secret, digests };
+        let memory = Memory { op_stack, origins, destinations, addresses, values, output };
+        let (answer, digest, bytes) = (self.answer.slice(), self.digest.slice(), self.bytes.slice());
+        match export {
+            Export::Open => by.open(registers, answer, digest, input.cells, code, memory),
+            Export::Step => by.step(registers, answer, code, memory, bytes),
+            Export::Run => by.run(registers, answer, input.budget, code, memory),
+            Export::Trace => by.trace_execution(registers, answer, input.budget, code, memory, bytes),
+            Export::Helpers => by.helper_variables(registers, answer, code, memory),
+        }
+    }
+
+    /// What stands otherwise in this arena than in that one, or a guard that was written to.
+    pub fn difference(&self, other: &Arena) -> Option<String> {
+        for (i, name) in host::lent::SLICES.iter().enumerate() {
+            if !self.slices[i].is_intact() {
+                return Some(format!("{name}: a guard was written to"));
+            }
+            if !self.slices[i].holds(other.slices[i].inside()) {
+                return Some(format!("{name}: {:?} and {:?}", self.slices[i].inside(), other.slices[i].inside()));
+            }
+        }
+        for (name, mine, theirs) in [("answer", &self.answer, &other.answer), ("digest", &self.digest, &other.digest)] {
+            if !mine.is_intact() {
+                return Some(format!("{name}: a guard was written to"));
+            }
+            if !mine.holds(theirs.inside()) {
+                return Some(format!("{name}: {:?} and {:?}", mine.inside(), theirs.inside()));
+            }
+        }
+        if !self.bytes.is_intact() {
+            return Some("bytes: a guard was written to".to_string());
+        }
+        if !self.bytes.holds(other.bytes.inside()) {
+            return Some(format!("bytes: {:?} and {:?}", self.bytes.inside(), other.bytes.inside()));
+        }
+        None
+    }
+
+    /// Whether everything lent is as it was handed in, but for the answer.
+    pub fn is_unchanged(&self, input: &Input) -> bool {
+        let slices = self.slices.iter().zip(input.machine.slices());
+        slices.into_iter().all(|(guarded, slice)| guarded.holds(slice)) && self.bytes.holds(&input.bytes)
+    }
+}

@@ -1,0 +1,244 @@
+//! Inputs: any numbers in slices of any length, machines that place A accepts, and such machines damaged in one place.
+use host::check::least;
+use host::field::P;
+use host::instructions::ALL;
+use host::job::{Before, Job, Room};
+use host::lent::{answer, register, Machine, STEP_BYTES};
+use host::programs::{program, wild};
+use host::random::Random;
+use host::states::single;
+
+#[derive(Clone, Copy, Debug, PartialEq, Eq)]
+pub enum Export {
+    Open,
+    Step,
+    Run,
+    Trace,
+    Helpers,
+}
+
+pub const EXPORTS: [Export; 5] = [Export::Open, Export::Step, Export::Run, Export::Trace, Export::Helpers];
+
+impl Export {
+    pub fn name(self) -> &'static str {
+        match self {
+            Export::Open => "triton_open",
+            Export::Step => "triton_step",
+            Export::Run => "triton_run",
+            Export::Trace => "triton_trace_execution",
+            Export::Helpers => "triton_helper_variables",
+        }
+    }
+
+    /// How long the answer has to be; the helper variables have its place.
+    fn answer_length(self) -> usize {
+        match self {
+            Export::Helpers => 6,
+            _ => answer::ALL,
+        }
+    }
+}
+
+#[derive(Clone, Debug)]
+pub struct Input {
+    pub machine: Machine,
+    /// The answer, or the helper variables.
+    pub answer: Vec<u64>,
+    pub digest: Vec<u64>,
+    pub bytes: Vec<u8>,
+    pub cells: u64,
+    pub budget: u64,
+}
+
+/// Inputs made from one another: a few of any numbers, or one that fits and others damaged.
+pub fn inputs(export: Export, random: &mut Random) -> Vec<Input> {
+    if random.once_in(6) {
+        return (0..8).map(|_| arbitrary(export, random)).collect();
+    }
+    let sound = sound(export, random);
+    let mut inputs = vec![sound.clone()];
+    for _ in 0..9 {
+        let mut input = sound.clone();
+        damage(&mut input, random);
+        if random.once_in(5) {
+            damage(&mut input, random);
+        }
+        inputs.push(input);
+    }
+    inputs
+}
+
+/// Any numbers; most of the lengths are ones that fit.
+fn arbitrary(export: Export, random: &mut Random) -> Input {
+    let shaped = random.once_in(2);
+    let mut lengths = [0; 12].map(|_: usize| random.index(40));
+    if shaped {
+        lengths[0] = register::ALL;
+        lengths[2] = lengths[1];
+        lengths[5] -= lengths[5] % 5;
+        lengths[6] += 16;
+        lengths[8] = lengths[7];
+        lengths[10] = lengths[9];
+    }
+    let mut machine = Machine::default();
+    let small = random.once_in(2);
+    for (slice, length) in machine.slices_mut().into_iter().zip(lengths) {
+        *slice = (0..length).map(|_| number(random, small)).collect();
+    }
+    let mut length = |fitting: usize| if shaped || random.once_in(2) { fitting } else { random.index(2 * fitting) };
+    let lengths = [length(export.answer_length()), length(5), length(STEP_BYTES)];
+    Input {
+        machine,
+        answer: (0..lengths[0]).map(|_| random.next()).collect(),
+        digest: (0..lengths[1]).map(|_| number(random, small)).collect(),
+        bytes: vec![random.next() as u8; lengths[2]],
+        cells: random.below(40),
+        budget: random.below(20),
+    }
+}
+
+fn number(random: &mut Random, small: bool) -> u64 {
+    match random.below(8) {
+        0 if !small => random.next(),
+        1 => random.word(),
+        2 => random.below(100),
+        _ => random.below(2),
+    }
+}
+
+/// What place A accepts.
+fn sound(export: Export, random: &mut Random) -> Input {
+    let job = match random.below(12) {
+        0 if matches!(export, Export::Run | Export::Trace) => program(random),
+        0..3 => wild(random),
+        _ => {
+            let instruction = random.pick(&ALL);
+            single(random, &instruction)
+        }
+    };
+    let budget = if random.once_in(8) { random.below(300) } else { random.below(8) };
+    let steps = if matches!(export, Export::Run | Export::Trace) { budget as usize } else { 1 };
+    let room = room(&job, steps, random);
+    let machine = match job.start {
+        None => opened(&job, room, random),
+        Some(_) => {
+            let before = Before::random(random);
+            job.started(room, &before, random)
+        }
+    };
+    let bytes = match export {
+        Export::Step => STEP_BYTES + random.index(2),
+        Export::Trace => {
+            let most = random.pick(&[2_000, 4_000, 20_000]);
+            random.index(most)
+        }
+        _ => 0,
+    };
+    Input {
+        machine,
+        answer: (0..export.answer_length()).map(|_| random.next()).collect(),
+        digest: random.words(5),
+        bytes: vec![random.next() as u8; bytes],
+        cells: random.below(job.ram.len() as u64 + 1),
+        budget,
+    }
+}
+
+/// Room for most of what comes.
+fn room(job: &Job, steps: usize, random: &mut Random) -> Room {
+    let least = least(job);
+    let mut more = |most: usize| random.index(most + 1);
+    Room {
+        stack: least.stack + more(10 * steps.min(20)),
+        jumps: least.jumps + more(2),
+        cells: least.cells + more(6),
+        output: least.output + more(6),
+    }
+}
+
+fn opened(job: &Job, room: Room, random: &mut Random) -> Machine {
+    let mut machine = job.unopened(room, random);
+    let answer = machine.open(&host::model::Model, &job.digest, job.ram.len() as u64);
+    assert_eq!(answer[answer::NUMBER], 0);
+    machine
+}
+
+/// One place changed.
+fn damage(input: &mut Input, random: &mut Random) {
+    let registers = &mut input.machine.registers;
+    match random.below(20) {
+        0 => resize(&mut input.answer, random),
+        1 => resize(&mut input.digest, random),
+        2 => input.bytes.truncate(random.index(input.bytes.len() + 1)),
+        3 => input.cells = count(random),
+        4 | 5 => {
+            let place = random.index(11);
+            registers.get_mut(place).into_iter().for_each(|word| *word = count(random));
+        }
+        6 | 7 => {
+            let place = random.index(11);
+            registers.get_mut(place).into_iter().for_each(|word| *word = word.wrapping_add(random.pick(&[1, u64::MAX])));
+        }
+        8 => pick_mut(registers, random).into_iter().for_each(|word| *word = random.too_large()),
+        9 | 10 => {
+            let picked = random.index(12);
+            resize(input.machine.slices_mut()[picked], random);
+        }
+        // both of a pair
+        11 => {
+            let pair = random.pick(&[1, 7, 9]);
+            let length = random.index(20);
+            let slices = input.machine.slices_mut();
+            slices[pair].resize(length, 0);
+            slices[pair + 1].resize(length, 0);
+        }
+        12 => {
+            let cells = &mut input.machine.addresses;
+            if let Some(&address) = cells.first() {
+                let place = random.index(cells.len());
+                cells[place] = address;
+            }
+        }
+        13 => {
+            if let Some(opcode) = pick_mut(&mut input.machine.opcodes, random) {
+                *opcode = random.pick(&[5, 89, 255, 1 << 32, u64::MAX, ALL[20].opcode, ALL[1].opcode]);
+            }
+        }
+        14 => {
+            if let Some(argument) = pick_mut(&mut input.machine.arguments, random) {
+                *argument = random.pick(&[0, 1, 5, 6, 15, 16, P - 1, P]);
+            }
+        }
+        _ => {
+            let picked = 1 + random.index(11);
+            let small = random.once_in(2);
+            if let Some(word) = pick_mut(input.machine.slices_mut()[picked], random) {
+                *word = if small { random.word() } else { random.too_large() };
+            }
+        }
+    }
+}
+
+fn pick_mut<'a>(slice: &'a mut [u64], random: &mut Random) -> Option<&'a mut u64> {
+    let length = slice.len();
+    (length > 0).then(|| &mut slice[random.index(length)])
+}
+
+fn count(random: &mut Random) -> u64 {
+    match random.below(4) {
+        0 => random.below(3),
+        1 => random.below(100),
+        2 => random.pick(&[1 << 32, (1 << 32) - 1, P, P - 1, u64::MAX, 1 << 24, 1 << 63]),
+        _ => random.next(),
+    }
+}
+
+fn resize(slice: &mut Vec<u64>, random: &mut Random) {
+    let length = match random.below(4) {
+        0 => slice.len() + 1,
+        1 => slice.len().saturating_sub(1),
+        2 => 0,
+        _ => random.index(64),
+    };
+    slice.resize(length, 0);
+}

@@ -1,0 +1,166 @@
+//! fuzz [CALLS [SEED]]: so many calls of each export on arbitrary input, each made twice between guards and held to the model.
+//! fuzz piece N SEED: one piece of that work again.
+mod guard;
+mod input;
+mod lengths;
+
+use guard::Arena;
+use host::ffi::Library;
+use host::instructions::{decode, named};
+use host::lent::register;
+use host::model::Model;
+use host::random::Random;
+use input::{inputs, Export, Input, EXPORTS};
+use std::collections::BTreeMap;
+use std::process::exit;
+use std::sync::atomic::{AtomicU64, Ordering::Relaxed};
+use std::sync::Mutex;
+use std::time::{Duration, Instant};
+
+/// No call may take longer.
+const LIMIT: Duration = Duration::from_secs(5);
+/// How many calls of an export are one piece of work.
+const PIECE: u64 = 20_000;
+
+type Counts = BTreeMap<(&'static str, u64), u64>;
+
+/// When the current call of a thread began, in milliseconds and one, and which it is.
+#[derive(Default)]
+struct Watched {
+    since: AtomicU64,
+    piece: AtomicU64,
+    call: AtomicU64,
+}
+
+struct Fuzz {
+    seed: u64,
+    start: Instant,
+}
+
+impl Fuzz {
+    fn piece(&self, piece: u64, watched: &Watched) -> Result<Counts, String> {
+        let export = EXPORTS[(piece % EXPORTS.len() as u64) as usize];
+        let mut random = Random::for_piece(self.seed, piece);
+        let mut arenas = [Arena::new(0xa5a5_a5a5_a5a5_a5a5), Arena::new(0x0123_4567_89ab_cdef), Arena::new(0)];
+        let mut counts = Counts::new();
+        let mut call = 0;
+        watched.piece.store(piece, Relaxed);
+        while call < PIECE {
+            for input in inputs(export, &mut random) {
+                watched.call.store(call, Relaxed);
+                watched.since.store(self.start.elapsed().as_millis() as u64 + 1, Relaxed);
+                let number = compare(export, &input, &mut arenas).map_err(|text| {
+                    format!(
+                        "{}: {text}\ninput: {input:?}\nrepeat: fuzz piece {piece} {}; it is call {call}",
+                        export.name(),
+                        self.seed
+                    )
+                })?;
+                watched.since.store(0, Relaxed);
+                *counts.entry((export.name(), number)).or_default() += 1;
+                call += 1;
+            }
+        }
+        Ok(counts)
+    }
+}
+
+/// The library twice, with other guards the second time, beside the model.
+fn compare(export: Export, input: &Input, [first, second, expected]: &mut [Arena; 3]) -> Result<u64, String> {
+    let number = expected.call(export, input, &Model);
+    for arena in [first, second] {
+        let found = arena.call(export, input, &Library);
+        if found != number {
+            return Err(format!("{found} instead of {number}"));
+        }
+        if let Some(text) = arena.difference(expected) {
+            return Err(text);
+        }
+        let may_change = matches!(export, Export::Run | Export::Trace) && number >= 10 || number == 11 && is_at_skiz(input);
+        if number != 0 && !may_change && !arena.is_unchanged(input) {
+            return Err(format!("refused with {number}, and something is changed"));
+        }
+    }
+    Ok(number)
+}
+
+fn is_at_skiz(input: &Input) -> bool {
+    let pointer = input.machine.registers[register::POINTER];
+    let opcode = usize::try_from(pointer).ok().and_then(|pointer| input.machine.opcodes.get(pointer));
+    opcode.and_then(|&opcode| decode(opcode)).is_some_and(|instruction| instruction.opcode == named("skiz").opcode)
+}
+
+fn main() {
+    let is_piece = std::env::args().nth(1).is_some_and(|word| word == "piece");
+    let mut words = std::env::args().skip(1 + is_piece as usize).map(|word| word.parse().unwrap_or_else(|_| usage()));
+    if is_piece {
+        let piece = words.next().unwrap_or_else(|| usage());
+        let fuzz = Fuzz { seed: words.next().unwrap_or_else(|| usage()), start: Instant::now() };
+        match fuzz.piece(piece, &Watched::default()) {
+            Ok(counts) => return print(&counts),
+            Err(text) => fail(&text),
+        }
+    }
+    let calls: u64 = words.next().unwrap_or(10_000_000);
+    let seed = words.next().unwrap_or_else(|| std::time::UNIX_EPOCH.elapsed().unwrap().as_secs());
+    println!("seed {seed}: {calls} calls of each export");
+    lengths::check();
+    let pieces = calls.div_ceil(PIECE) * EXPORTS.len() as u64;
+    let threads = std::thread::available_parallelism().map_or(1, |n| n.get());
+    let fuzz = Fuzz { seed, start: Instant::now() };
+    let watched: Vec<Watched> = (0..threads).map(|_| Watched::default()).collect();
+    let next = AtomicU64::new(0);
+    let running = AtomicU64::new(threads as u64);
+    let total = Mutex::new(Counts::new());
+    std::thread::scope(|scope| {
+        for watched in &watched {
+            scope.spawn(|| {
+                loop {
+                    let piece = next.fetch_add(1, Relaxed);
+                    if piece >= pieces {
+                        break;
+                    }
+                    match fuzz.piece(piece, watched) {
+                        Ok(counts) => {
+                            let mut total = total.lock().unwrap();
+                            counts.into_iter().for_each(|(key, count)| *total.entry(key).or_default() += count);
+                        }
+                        Err(text) => fail(&text),
+                    }
+                }
+                running.fetch_sub(1, Relaxed);
+            });
+        }
+        while running.load(Relaxed) != 0 {
+            std::thread::sleep(Duration::from_millis(100));
+            let now = fuzz.start.elapsed().as_millis() as u64 + 1;
+            for watched in &watched {
+                let since = watched.since.load(Relaxed);
+                if since != 0 && now.saturating_sub(since) > LIMIT.as_millis() as u64 {
+                    let (piece, call) = (watched.piece.load(Relaxed), watched.call.load(Relaxed));
+                    let limit = LIMIT.as_secs();
+                    fail(&format!("a call takes over {limit} seconds\nrepeat: fuzz piece {piece} {seed}; it is call {call}"));
+                }
+            }
+        }
+    });
+    print(&total.into_inner().unwrap());
+    println!("seed {seed}: no difference, {} seconds", fuzz.start.elapsed().as_secs());
+}
+
+fn print(counts: &Counts) {
+    println!("{:<26}{:>8}{:>12}", "export", "number", "calls");
+    for ((name, number), count) in counts {
+        println!("{name:<26}{number:>8}{count:>12}");
+    }
+}
+
+fn fail(text: &str) -> ! {
+    println!("{text}");
+    exit(1)
+}
+
+fn usage() -> ! {
+    eprintln!("fuzz [CALLS [SEED]]\nfuzz piece N SEED");
+    exit(2)
+}
