@@ -1,36 +1,17 @@
--- What the calls give where the slices fit and where they do not. Assumes nothing.
-use mathlib.Core.Path.{_≡_, refl, sym, ap, subst, _∙_}
-use mathlib.Core.Bool.{Bool, true, false}
+-- What fitting slices are, and what is written of a report. Assumes nothing.
+use mathlib.Core.Path.{_≡_, sym, _∙_}
+use mathlib.Core.Bool.{Bool, true}
 use mathlib.Core.List.{List}
 use Prim.Native.Nat.{ℕ}
-use borrow.Author.Tests.{eqb-true, eqb-false, ne-eqb}
+use borrow.Author.Tests.{eqb-true}
 use lib.ListN.{length}
-use lib.Dec.{eqb}
 use Rattle.machine.specs.declared.vm.VMState.{VMState}
-use Rattle.machine.specs.Machine.{Code, Memory, Machine, machine}
-use Rattle.machine.specs.Refusal.{Refusal, plainly}
-use Rattle.machine.specs.Apply.{Outcome, took, kept}
-use Rattle.machine.specs.PlaceA.{openA}
-use Rattle.machine.specs.Open.{opened, openOf}
-use Rattle.machine.specs.HelperVariables.{helperVariablesOf}
-use Rattle.machine.proofs.Refused.{open-accepts, open-refuses}
-use Rattle.machine.specs.Step.{Ran as RunGives, Stepped as StepGives, stepOf, runOf}
-use Rattle.vm.specs.declared.answer.Answer.{Answer}
-use Rattle.vm.specs.declared.answer.Moved.{Moved}
-use Rattle.vm.specs.declared.answer.Ran.{Ran}
-use Rattle.vm.specs.declared.answer.Stepped.{Stepped}
-use Rattle.vm.specs.StepView.{did, answerIn, leftBy, Gives, Steps}
-use Rattle.vm.specs.declared.helper_variables.Helped.{Helped as Given}
-use Rattle.vm.specs.RunView.{endingIn, RanAs, Runs}
-use Rattle.vm.specs.OpenView.{noState, Opens}
-use Rattle.vm.specs.HelpedView.{helpedOf}
+use Rattle.machine.specs.Machine.{Memory}
 use Rattle.exports.specs.declared.report.Report.{Report}
-use Rattle.exports.specs.Registers.{registersOf, stateOf, Readable}
-use Rattle.exports.specs.Report.{misfit, answerOf, saidOf, stepReport, openReport, runReport}
-use Rattle.exports.specs.Calls.{Called, called, reported, fitsOf, stepCalled, stepGives, stepCall, runGives, runCall, openFitsOf, unopened, openGives, openCall, openedRegisters, helped, noHelpers, helperCall}
+use Rattle.exports.specs.Registers.{registersOf, Readable}
+use Rattle.exports.specs.Report.{answerOf}
+use Rattle.exports.specs.Calls.{called, fitsOf, reported}
 use Rattle.exports.proofs.RegistersLaws.{both, readable-facts}
-
--- ---- fitting
 
 pub record Fits (w a : List ℕ) (n : ℕ) : Type 0 where
   pub registers : Readable w
@@ -43,103 +24,5 @@ fits-facts w a n e h =
     record { registers = readable-facts w (k .0); answer = eqb-true _ _ (k .1) }
 
 -- what was written, by a report
-written : (s : VMState) (m : Memory) {r q : Report} {w a : List ℕ} → r ≡ q → w ≡ registersOf s → a ≡ answerOf r → called (r .number) w a m ≡ reported q s m
+pub written : (s : VMState) (m : Memory) {r q : Report} {w a : List ℕ} → r ≡ q → w ≡ registersOf s → a ≡ answerOf r → called (r .number) w a m ≡ reported q s m
 written s m e f g = rw (f, g, e)
-
--- ---- step
-
-module _ (w a : List ℕ) (c : Code) (m : Memory) (b : List ℕ) {t : Bool} (e : t ≡ fitsOf w a 7) where
-  pub step-called : {s : VMState} {r : Stepped} {n : Memory} {b2 : List ℕ} {p : Report} {w2 a2 : List ℕ} → t ≡ true → s ≡ stateOf w → Steps (machine s c m) b r n b2 →
-      p ≡ stepReport (answerIn (r .answer)) (r .bytes) → w2 ≡ registersOf (r .state) → a2 ≡ answerOf p →
-      stepCalled (called (p .number) w2 a2 n) b2 ≡ stepCall w a c m b
-  unfolding stepCall
-  step-called {s} {r} {n} h f k i j l =
-      rw (sym e ∙ h)
-      ((λ d. stepCalled (written (r .state) n i j l d) (k .buffer d))
-      ∙ (λ d. stepCalled (reported (stepReport (k .gives .answer d) (k .bytes d)) (k .gives .left d .state) (k .gives .left d .memory)) (stepOf (machine s c m) b .buffer))
-      ∙ ap (λ (x : VMState). stepGives (machine x c m) (stepOf (machine x c m) b)) f)
-
-  pub step-misfits : {a2 : List ℕ} → t ≡ false → a2 ≡ saidOf a misfit → stepCalled (called 1 w a2 m) b ≡ stepCall w a c m b
-  unfolding stepCall
-  step-misfits h k = rw (sym e ∙ h) (ap (λ (x : List ℕ). stepCalled (called 1 w x m) b) k)
-
--- ---- run
-
-module _ (budget : ℕ) (w a : List ℕ) (c : Code) (m : Memory) {t : Bool} (e : t ≡ fitsOf w a 7) where
-  pub run-called : {s : VMState} {r : Ran} {n : Memory} {p : Report} {w2 a2 : List ℕ} → t ≡ true → s ≡ stateOf w → Runs budget (machine s c m) r n →
-      p ≡ runReport (endingIn (r .ending)) (r .count) → w2 ≡ registersOf (r .state) → a2 ≡ answerOf p → called (p .number) w2 a2 n ≡ runCall budget w a c m
-  unfolding runCall
-  run-called {s} {r} {n} h f k i j l =
-      rw (sym e ∙ h)
-      (written (r .state) n i j l
-      ∙ (λ d. reported (runReport (k .ending d) (k .count d)) (k .left d .state) (k .left d .memory))
-      ∙ ap (λ (x : VMState). runGives (runOf budget (machine x c m))) f)
-
-  pub run-misfits : {a2 : List ℕ} → t ≡ false → a2 ≡ saidOf a misfit → called 1 w a2 m ≡ runCall budget w a c m
-  unfolding runCall
-  run-misfits h k = rw (sym e ∙ h) (ap (λ (x : List ℕ). called 1 w x m) k)
-
--- ---- open
-
-pub record OpenFits (w a g : List ℕ) : Type 0 where
-  pub registers : length w ≡ 27
-  pub answer : length a ≡ 7
-  pub digest : length g ≡ 5
-
-pub open-fits-facts : (w a g : List ℕ) {t : Bool} → t ≡ openFitsOf w a g → t ≡ true → OpenFits w a g
-unfolding openFitsOf
-open-fits-facts w a g e h =
-    let k = both (sym e ∙ h) in
-    let l = both (k .1) in
-    record { registers = eqb-true _ _ (k .0); answer = eqb-true _ _ (l .0); digest = eqb-true _ _ (l .1) }
-
--- what was written, by a report on the registers w
-open-written : (s : VMState) (w : List ℕ) (m : Memory) {r q : Report} {w2 a : List ℕ} → r ≡ q → w2 ≡ openedRegisters (r .number) s w → a ≡ answerOf r →
-    called (r .number) w2 a m ≡ called (q .number) (openedRegisters (q .number) s w) (answerOf q) m
-open-written s w m e f g = rw (f, g, e)
-
-module _ (w : List ℕ) (c : Code) (m : Memory) {o : Outcome} {x : Answer} {s : VMState} {n : Memory} where
-  opened-gives : (y : Machine) → o ≡ took y → Gives (machine noState c m) o x (machine s c n) →
-      called (openReport (answerIn x) .number) (openedRegisters (openReport (answerIn x) .number) s w) (answerOf (openReport (answerIn x))) n ≡ openGives w m o
-  unfolding openedRegisters
-  opened-gives y e h =
-      rw (h .answer, e) (λ d. reported (openReport did) ((h .left ∙ ap (leftBy (machine noState c m)) e) d .state) ((h .left ∙ ap (leftBy (machine noState c m)) e) d .memory))
-
-  unopened-gives : (r : Refusal) → (r .number ≡ 0 → ⊥) → o ≡ kept r → Gives (machine noState c m) o x (machine s c n) →
-      called (openReport (answerIn x) .number) (openedRegisters (openReport (answerIn x) .number) s w) (answerOf (openReport (answerIn x))) n ≡ openGives w m o
-  unfolding openedRegisters
-  unopened-gives r z e h =
-      rw (h .answer, e, ne-eqb (r .number) 0 z) (λ d. unopened w ((h .left ∙ ap (leftBy (machine noState c m)) e) d .memory) r)
-
-module _ (w a g : List ℕ) (k : ℕ) (c : Code) (m : Memory) {t : Bool} (e : t ≡ openFitsOf w a g) where
-  open-gives : {x : Moved} {n : Memory} → Opens g c m k x n →
-      called (openReport (answerIn (x .answer)) .number) (openedRegisters (openReport (answerIn (x .answer)) .number) (x .state) w) (answerOf (openReport (answerIn (x .answer)))) n
-      ≡ openGives w m (openOf g c m k)
-  open-gives {x} {n} h = go (eqb (openA g c m k) 0) refl
-    where
-      go : (y : Bool) → eqb (openA g c m k) 0 ≡ y →
-          called (openReport (answerIn (x .answer)) .number) (openedRegisters (openReport (answerIn (x .answer)) .number) (x .state) w) (answerOf (openReport (answerIn (x .answer)))) n
-          ≡ openGives w m (openOf g c m k)
-      go true z = opened-gives w c m (opened g c m k) (open-accepts g c m k (eqb-true _ _ z)) (h .is)
-      go false z = unopened-gives w c m (plainly (openA g c m k)) (eqb-false _ _ z) (open-refuses g c m k (eqb-false _ _ z)) (h .is)
-
-  pub open-called : {d : List ℕ} {x : Moved} {n : Memory} {p : Report} {w2 a2 : List ℕ} → t ≡ true → d ≡ g → Opens d c m k x n →
-      p ≡ openReport (answerIn (x .answer)) → w2 ≡ openedRegisters (p .number) (x .state) w → a2 ≡ answerOf p → called (p .number) w2 a2 n ≡ openCall w a g k c m
-  unfolding openCall
-  open-called {x = x} {n = n} h f q i j l = rw (sym e ∙ h) (open-written (x .state) w n i j l ∙ open-gives (subst (λ (y : List ℕ). Opens y c m k x n) f q))
-
-  pub open-misfits : {a2 : List ℕ} → t ≡ false → a2 ≡ saidOf a misfit → called 1 w a2 m ≡ openCall w a g k c m
-  unfolding openCall
-  open-misfits h q = rw (sym e ∙ h) (ap (λ (x : List ℕ). called 1 w x m) q)
-
--- ---- the helper call
-
-module _ (w v : List ℕ) (c : Code) (m : Memory) {t : Bool} (e : t ≡ fitsOf w v 6) where
-  pub helper-called : {s : VMState} {r : Given} {v2 : List ℕ} → t ≡ true → s ≡ stateOf w → helpedOf r ≡ helperVariablesOf (machine s c m) → v2 ≡ r .helpers →
-      helped (r .number) v2 ≡ helperCall w v c m
-  unfolding helperCall
-  helper-called {r = r} h f k i = rw (sym e ∙ h) (ap (helped (r .number)) i ∙ k ∙ ap (λ (x : VMState). helperVariablesOf (machine x c m)) f)
-
-  pub helper-misfits : {v2 : List ℕ} → t ≡ false → v2 ≡ noHelpers v → helped 1 v2 ≡ helperCall w v c m
-  unfolding helperCall
-  helper-misfits h k = rw (sym e ∙ h) (ap (helped 1) k)

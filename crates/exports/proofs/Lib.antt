@@ -1,4 +1,8 @@
 -- The laws that the proofs cite.
 pub mod CallsLaws
+pub mod HelperCallLaws
+pub mod OpenCallLaws
 pub mod RegistersLaws
 pub mod ReportLaws
+pub mod RunCallLaws
+pub mod StepCallLaws

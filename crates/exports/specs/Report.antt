@@ -7,6 +7,8 @@ use Rattle.machine.specs.Choice.{cond}
 use Rattle.machine.specs.Refusal.{Refusal, plainly}
 use Rattle.machine.specs.Step.{Ending, halted, spent, refused}
 use Rattle.vm.specs.StepView.{Answered, did, turned}
+use Rattle.vm.specs.Trace.{TraceEnding}
+use Rattle.vm.specs.Trace as T
 use Rattle.exports.specs.declared.report.Refusal.{Refusal as RefusalIn}
 use Rattle.exports.specs.declared.report.Report.{Report}
 
@@ -39,6 +41,13 @@ abbrev pub runReport : Ending → ℕ → Report
 runReport halted n = report 0 unrefused n 0
 runReport spent n = report 1 unrefused n 0
 runReport (refused r) n = report 3 r n 0
+
+-- the same of trace_execution, with n bytes of records
+abbrev pub traceReport : TraceEnding → ℕ → ℕ → Report
+traceReport T.halted steps n = report 0 unrefused steps n
+traceReport T.spent steps n = report 1 unrefused steps n
+traceReport T.full steps n = report 2 unrefused steps n
+traceReport (T.refused r) steps n = report 3 r steps n
 
 unfoldable pub answerOf : Report → List ℕ
 answerOf r = r .ending ∷ r .number ∷ r .word0 ∷ r .word1 ∷ r .word2 ∷ r .steps ∷ r .bytes ∷ []

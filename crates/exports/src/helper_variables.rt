@@ -2,7 +2,7 @@
 ghost use mathlib.Core.Path.{_≡_};
 ghost use lib.ListN.{length};
 ghost use Rattle.machine.specs.Machine.{code, memory};
-ghost use Rattle.exports.specs.Calls.{helped, noHelpers, helperCall};
+ghost use Rattle.exports.specs.HelperCall.{helped, noHelpers, helperCall};
 use crate::fits::fits;
 use crate::registers::read_registers;
 use tip5::words::copy;

@@ -30,3 +30,4 @@ pub mod registers;
 pub mod report;
 pub mod run;
 pub mod step;
+pub mod trace;

@@ -2,7 +2,8 @@
 ghost use mathlib.Core.Path.{_≡_};
 ghost use lib.ListN.{length};
 ghost use Rattle.machine.specs.Machine.{code, memory};
-ghost use Rattle.exports.specs.Calls.{called, openFitsOf, openedRegisters, openCall};
+ghost use Rattle.exports.specs.Calls.{called};
+ghost use Rattle.exports.specs.OpenCall.{openFitsOf, openedRegisters, openCall};
 use crate::registers::write_registers;
 use crate::report::open_report;
 use crate::report::turn_down;

@@ -4,11 +4,13 @@ ghost use lib.ListN.{length};
 ghost use Rattle.machine.specs.Refusal.{refusal, refusalOf};
 ghost use Rattle.vm.specs.StepView.{answerIn};
 ghost use Rattle.vm.specs.RunView.{endingIn};
-ghost use Rattle.exports.specs.Report.{refusalIn, unrefused, report, misfit, answerOf, saidOf, stepReport, openReport, runReport};
+ghost use Rattle.vm.specs.TraceView.{endingIn as traceEndingIn};
+ghost use Rattle.exports.specs.Report.{refusalIn, unrefused, report, misfit, answerOf, saidOf, stepReport, openReport, runReport, traceReport};
 use machine::refusal::InstructionError;
 use tip5::words::copy;
 use vm::answer::Answer;
 use vm::answer::Ending;
+use vm::answer::TraceEnding;
 
 // A refusal's number and the words it carries.
 pub struct Refusal {
@@ -131,6 +133,17 @@ pub fn run_report(ending: Ending, count: u64) -> Report
         Ending::Halted => unrefused(0, count, 0),
         Ending::Spent => unrefused(1, count, 0),
         Ending::Refused(error) => refused(error, count, 0),
+    }
+}
+
+pub fn trace_report(ending: TraceEnding, count: u64, bytes: usize) -> Report
+    ensures { λ r. ⌜ r ≡ traceReport (traceEndingIn ending) count bytes ⌝ }
+{
+    match ending {
+        TraceEnding::Halted => unrefused(0, count, bytes as u64),
+        TraceEnding::Spent => unrefused(1, count, bytes as u64),
+        TraceEnding::Full => unrefused(2, count, bytes as u64),
+        TraceEnding::Refused(error) => refused(error, count, bytes as u64),
     }
 }
 

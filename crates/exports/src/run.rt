@@ -1,7 +1,8 @@
 // run over numbers and slices.
 ghost use mathlib.Core.Path.{_≡_};
 ghost use Rattle.machine.specs.Machine.{code, memory};
-ghost use Rattle.exports.specs.Calls.{called, runCall};
+ghost use Rattle.exports.specs.Calls.{called};
+ghost use Rattle.exports.specs.RunCall.{runCall};
 use crate::fits::fits;
 use crate::registers::read_registers;
 use crate::registers::write_registers;

@@ -1,7 +1,8 @@
 // step over numbers and slices.
 ghost use mathlib.Core.Path.{_≡_};
 ghost use Rattle.machine.specs.Machine.{code, memory};
-ghost use Rattle.exports.specs.Calls.{called, stepCalled, stepCall};
+ghost use Rattle.exports.specs.Calls.{called, recorded};
+ghost use Rattle.exports.specs.StepCall.{stepCall};
 use crate::fits::fits;
 use crate::registers::read_registers;
 use crate::registers::write_registers;
@@ -28,7 +29,7 @@ pub extern "C" fn triton_step(
     output: &mut [u64],
     calls: &mut [u8],
 ) -> u64
-    ensures { λ r. ⌜ stepCalled (called r (now (registers .exit)) (now (answer .exit))
+    ensures { λ r. ⌜ recorded (called r (now (registers .exit)) (now (answer .exit))
         (memory (now («op_stack» .exit)) (now (origins .exit)) (now (destinations .exit)) (now (addresses .exit)) (now (values .exit)) (now (output .exit)))) (now (calls .exit))
         ≡ stepCall (now (registers .entry)) (now (answer .entry))
         (code (now (opcodes .entry)) (now (arguments .entry)) (now (public .entry)) (now (secret .entry)) (now (digests .entry)))

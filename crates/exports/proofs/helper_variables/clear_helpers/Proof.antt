@@ -1,7 +1,7 @@
 -- `exports::helper_variables::clear_helpers` meets its contract. Assumes nothing.
 use borrow.Author.Tests.{eq-eqb, ne-eqb}
 use borrow.Author.Needs.{needs}
-use Rattle.exports.specs.Calls.{noHelpers}
+use Rattle.exports.specs.HelperCall.{noHelpers}
 use Rattle.exports.proofs.helper_variables.clear_helpers.Statement.{statement}
 use Rattle.exports.proofs.helper_variables.clear_helpers.Tie as tie
 

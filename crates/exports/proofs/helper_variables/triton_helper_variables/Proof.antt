@@ -1,6 +1,7 @@
 -- `exports::helper_variables::triton_helper_variables` meets its contract. Assumes nothing.
 use borrow.Author.Needs.{needs}
-use Rattle.exports.proofs.CallsLaws.{fits-facts, helper-called, helper-misfits}
+use Rattle.exports.proofs.CallsLaws.{fits-facts}
+use Rattle.exports.proofs.HelperCallLaws.{helper-called, helper-misfits}
 use Rattle.exports.proofs.helper_variables.triton_helper_variables.Statement.{statement}
 use Rattle.exports.proofs.helper_variables.triton_helper_variables.Tie as tie
 

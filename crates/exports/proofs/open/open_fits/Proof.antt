@@ -1,6 +1,6 @@
 -- `exports::open::open_fits` meets its contract. Assumes nothing.
 use borrow.Author.Tests.{eq-eqb, ne-eqb}
-use Rattle.exports.specs.Calls.{openFitsOf}
+use Rattle.exports.specs.OpenCall.{openFitsOf}
 use Rattle.exports.proofs.open.open_fits.Statement.{statement}
 use Rattle.exports.proofs.open.open_fits.Tie as tie
 

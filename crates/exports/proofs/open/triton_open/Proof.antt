@@ -1,6 +1,6 @@
 -- `exports::open::triton_open` meets its contract. Assumes nothing.
 use borrow.Author.Needs.{needs}
-use Rattle.exports.proofs.CallsLaws.{open-fits-facts, open-called, open-misfits}
+use Rattle.exports.proofs.OpenCallLaws.{open-fits-facts, open-called, open-misfits}
 use Rattle.exports.proofs.open.triton_open.Statement.{statement}
 use Rattle.exports.proofs.open.triton_open.Tie as tie
 

@@ -1,7 +1,7 @@
 -- `exports::open::write_opened` meets its contract. Assumes nothing.
 use borrow.Author.Tests.{eq-eqb, ne-eqb}
 use borrow.Author.Needs.{needs}
-use Rattle.exports.specs.Calls.{openedRegisters}
+use Rattle.exports.specs.OpenCall.{openedRegisters}
 use Rattle.exports.proofs.open.write_opened.Statement.{statement}
 use Rattle.exports.proofs.open.write_opened.Tie as tie
 

@@ -1,6 +1,7 @@
 -- `exports::run::triton_run` meets its contract. Assumes nothing.
 use borrow.Author.Needs.{needs}
-use Rattle.exports.proofs.CallsLaws.{fits-facts, run-called, run-misfits}
+use Rattle.exports.proofs.CallsLaws.{fits-facts}
+use Rattle.exports.proofs.RunCallLaws.{run-called, run-misfits}
 use Rattle.exports.proofs.run.triton_run.Statement.{statement}
 use Rattle.exports.proofs.run.triton_run.Tie as tie
 

@@ -1,6 +1,7 @@
 -- `exports::step::triton_step` meets its contract. Assumes nothing.
 use borrow.Author.Needs.{needs}
-use Rattle.exports.proofs.CallsLaws.{fits-facts, step-called, step-misfits}
+use Rattle.exports.proofs.CallsLaws.{fits-facts}
+use Rattle.exports.proofs.StepCallLaws.{step-called, step-misfits}
 use Rattle.exports.proofs.step.triton_step.Statement.{statement}
 use Rattle.exports.proofs.step.triton_step.Tie as tie
 
