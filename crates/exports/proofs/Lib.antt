@@ -2,6 +2,7 @@
 pub mod CallsLaws
 pub mod HelperCallLaws
 pub mod OpenCallLaws
+pub mod RefusedCalls
 pub mod RegistersLaws
 pub mod ReportLaws
 pub mod RunCallLaws

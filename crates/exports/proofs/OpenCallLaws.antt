@@ -22,7 +22,6 @@ use Rattle.exports.specs.Report.{misfit, answerOf, saidOf, openReport}
 use Rattle.exports.specs.Calls.{called, reported}
 use Rattle.exports.specs.OpenCall.{openFitsOf, unopened, openGives, openCall, openedRegisters}
 use Rattle.exports.proofs.RegistersLaws.{both}
-use Rattle.exports.proofs.CallsLaws.{written}
 
 pub record OpenFits (w a g : List ℕ) : Type 0 where
   pub registers : length w ≡ 27

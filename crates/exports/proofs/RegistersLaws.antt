@@ -2,12 +2,12 @@
 use mathlib.Core.Path.{_≡_, refl, sym, ap, _∙_}
 use mathlib.Core.Bool.{Bool, true, false, true≢false}
 use mathlib.Core.List.{List, [], _∷_, _++_, append-nil}
-use Prim.Native.Nat.{ℕ, zero, suc, _+_, _-_, _<_, _≤_}
+use Prim.Native.Nat.{ℕ, zero, suc, _-_, _<_}
 use native.Mathlib.Omega.{arith}
 use borrow.Author.Tests.{eqb-true, ltb-true}
 use lib.ListN.{length, getD, take, drop, replicate, length-drop, drop-of-length-le}
 use lib.Seq.{paste, drop-cons, take-all, take-at, length-paste}
-use lib.Dec.{eqb, ltb}
+use lib.Dec.{eqb}
 use Rattle.machine.specs.declared.vm.VMState.{VMState}
 use Rattle.machine.specs.Choice.{cond}
 use Rattle.exports.specs.Registers.{mark, registersOf, stateOf, Readable, readableOf}

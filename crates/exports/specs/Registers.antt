@@ -1,7 +1,7 @@
 -- The registers as a slice of 27 words: src/lib.rt names them.
 use Prim.Native.Nat.{ℕ, _<_}
 use mathlib.Core.Path.{_≡_}
-use mathlib.Core.Bool.{Bool, true, false}
+use mathlib.Core.Bool.{Bool, false}
 use mathlib.Core.List.{List, _∷_}
 use lib.ListN.{length, getD, drop}
 use lib.Dec.{eqb, ltb}
