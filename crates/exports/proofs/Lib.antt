@@ -1,0 +1,9 @@
+-- The laws that the proofs cite.
+pub mod CallsLaws
+pub mod HelperCallLaws
+pub mod OpenCallLaws
+pub mod RefusedCalls
+pub mod RegistersLaws
+pub mod ReportLaws
+pub mod RunCallLaws
+pub mod StepCallLaws

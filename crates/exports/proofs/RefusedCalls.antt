@@ -1,0 +1,95 @@
+-- A call that is refused gives the refusal's number and words, and changes nothing that is lent: where the slices do not fit, and where place A
+-- refuses. A step so refused at a later place, too. Assumes nothing.
+use mathlib.Core.Path.{_≡_, refl, sym, ap, _∙_}
+use mathlib.Core.Bool.{true, false}
+use mathlib.Core.List.{List}
+use Prim.Native.Nat.{ℕ}
+use borrow.Author.Tests.{ne-eqb}
+use lib.ListN.{replicate}
+use Rattle.machine.specs.Refusal.{Refusal, plainly}
+use Rattle.machine.specs.Machine.{Code, Memory, machine}
+use Rattle.machine.specs.Apply.{kept}
+use Rattle.machine.specs.PlaceA.{machineA, stepA, openA}
+use Rattle.machine.specs.Decide.{decideOf}
+use Rattle.machine.specs.Step.{Stepped, stepOf}
+use Rattle.machine.proofs.Logged.{logged-none}
+use Rattle.machine.proofs.Step.{refused-buffer}
+use Rattle.machine.proofs.Refused.{step-refuses, run-refuses, open-refuses, helpers-refused}
+use Rattle.vm.specs.Trace.{traceExecutionOf}
+use Rattle.vm.specs.StepView.{answeredBy, leftBy}
+use Rattle.exports.specs.Registers.{stateOf}
+use Rattle.exports.specs.Report.{report, answerOf, stepReport}
+use Rattle.exports.specs.Calls.{Called, called, recorded, fitsOf, misfitted, reported}
+use Rattle.exports.specs.StepCall.{stepCall}
+use Rattle.exports.specs.RunCall.{runGives, runCall, traceCall}
+use Rattle.exports.specs.OpenCall.{openFitsOf, openGives, openCall}
+use Rattle.exports.specs.HelperCall.{helped, noHelpers, helperCall}
+use Rattle.exports.proofs.RegistersLaws.{registers-state}
+use Rattle.exports.proofs.CallsLaws.{fits-facts}
+
+-- what a call gives that is refused before a step
+abbrev pub refusedCall : List ℕ → Memory → Refusal → Called
+refusedCall w m r = called (r .number) w (answerOf (report 3 r 0 0)) m
+
+-- ---- slices that do not fit
+
+module _ (w a : List ℕ) (c : Code) (m : Memory) (h : fitsOf w a 7 ≡ false) where
+  pub step-misfit : (b : List ℕ) → stepCall w a c m b ≡ recorded (misfitted w a m) b
+  unfolding stepCall
+  step-misfit b = rw h
+
+  pub run-misfit : (budget : ℕ) → runCall budget w a c m ≡ misfitted w a m
+  unfolding runCall
+  run-misfit budget = rw h
+
+  pub trace-misfit : (budget : ℕ) (b : List ℕ) → traceCall budget w a c m b ≡ recorded (misfitted w a m) b
+  unfolding traceCall
+  trace-misfit budget b = rw h
+
+pub open-misfit : (w a g : List ℕ) (n : ℕ) (c : Code) (m : Memory) → openFitsOf w a g ≡ false → openCall w a g n c m ≡ misfitted w a m
+unfolding openCall
+open-misfit w a g n c m h = rw h
+
+pub helper-misfit : (w v : List ℕ) (c : Code) (m : Memory) → fitsOf w v 6 ≡ false → helperCall w v c m ≡ helped 1 (noHelpers v)
+unfolding helperCall
+helper-misfit w v c m h = rw h
+
+-- ---- refused
+
+module _ (w a : List ℕ) (c : Code) (m : Memory) (h : fitsOf w a 7 ≡ true) where
+  -- the words of the registers are those of the state that was read from them
+  same : (r : Refusal) → reported (report 3 r 0 0) (stateOf w) m ≡ refusedCall w m r
+  same r = ap (λ (x : List ℕ). called (r .number) x (answerOf (report 3 r 0 0)) m) (registers-state w (fits-facts w a 7 refl h .registers))
+
+  -- at any place, but for skiz that has dropped its word
+  pub step-kept : (b : List ℕ) (r : Refusal) → stepOf (machine (stateOf w) c m) b .outcome ≡ kept r → stepCall w a c m b ≡ recorded (refusedCall w m r) b
+  unfolding stepCall
+  step-kept b r e =
+      let k = refused-buffer decideOf (machine (stateOf w) c m) b r e in
+      rw h
+      ((λ d. recorded (reported (stepReport (answeredBy (e d)) (k .0 d)) (leftBy (machine (stateOf w) c m) (e d) .state) (leftBy (machine (stateOf w) c m) (e d) .memory)) (k .1 d))
+      ∙ ap (λ (x : Called). recorded x b) (same r))
+
+  pub step-refused : (b : List ℕ) → (stepA (machine (stateOf w) c m) b ≡ 0 → ⊥) → stepCall w a c m b ≡ recorded (refusedCall w m (plainly (stepA (machine (stateOf w) c m) b))) b
+  step-refused b z = step-kept b _ (ap (λ (x : Stepped). x .outcome) (step-refuses decideOf (machine (stateOf w) c m) b z))
+
+  pub run-refused : (budget : ℕ) → (machineA (machine (stateOf w) c m) ≡ 0 → ⊥) → runCall budget w a c m ≡ refusedCall w m (plainly (machineA (machine (stateOf w) c m)))
+  unfolding runCall
+  run-refused budget z = rw h (ap runGives (run-refuses decideOf budget (machine (stateOf w) c m) z) ∙ same (plainly (machineA (machine (stateOf w) c m))))
+
+  pub trace-refused : (budget : ℕ) (b : List ℕ) → (stepA (machine (stateOf w) c m) b ≡ 0 → ⊥) →
+      traceCall budget w a c m b ≡ recorded (refusedCall w m (plainly (stepA (machine (stateOf w) c m) b))) b
+  unfolding traceCall traceExecutionOf
+  trace-refused budget b z =
+      rw (h, ne-eqb (stepA (machine (stateOf w) c m) b) 0 z)
+      (λ d. recorded (same (plainly (stepA (machine (stateOf w) c m) b)) d) (sym (logged-none b 0) d))
+
+pub open-refused : (w a g : List ℕ) (n : ℕ) (c : Code) (m : Memory) → openFitsOf w a g ≡ true → (openA g c m n ≡ 0 → ⊥) →
+    openCall w a g n c m ≡ refusedCall w m (plainly (openA g c m n))
+unfolding openCall
+open-refused w a g n c m h z = rw h (ap (openGives w m) (open-refuses g c m n z))
+
+pub helper-refused : (w v : List ℕ) (c : Code) (m : Memory) → fitsOf w v 6 ≡ true → (machineA (machine (stateOf w) c m) ≡ 0 → ⊥) →
+    helperCall w v c m ≡ helped (machineA (machine (stateOf w) c m)) (replicate 6 0)
+unfolding helperCall
+helper-refused w v c m h z = rw h (helpers-refused (machine (stateOf w) c m) z)

@@ -1,0 +1,8 @@
+-- What the contracts cite.
+pub mod Calls
+pub mod HelperCall
+pub mod OpenCall
+pub mod Registers
+pub mod Report
+pub mod RunCall
+pub mod StepCall

@@ -1,0 +1,184 @@
+// What a call answers, as a slice of seven words.
+ghost use mathlib.Core.Path.{_≡_};
+ghost use lib.ListN.{length};
+ghost use Rattle.machine.specs.Refusal.{refusal, refusalOf};
+ghost use Rattle.vm.specs.StepView.{answerIn};
+ghost use Rattle.vm.specs.RunView.{endingIn};
+ghost use Rattle.vm.specs.TraceView.{endingIn as traceEndingIn};
+ghost use Rattle.exports.specs.Report.{refusalIn, unrefused, report, misfit, answerOf, saidOf, stepReport, openReport, runReport, traceReport};
+use machine::refusal::InstructionError;
+use tip5::words::copy;
+use vm::answer::Answer;
+use vm::answer::Ending;
+use vm::answer::TraceEnding;
+
+// A refusal's number and the words it carries.
+pub struct Refusal {
+    pub number: u64,
+    pub word0: u64,
+    pub word1: u64,
+    pub word2: u64,
+}
+
+// The seven words of an answer.
+pub struct Report {
+    pub ending: u64,
+    pub number: u64,
+    pub word0: u64,
+    pub word1: u64,
+    pub word2: u64,
+    pub steps: u64,
+    pub bytes: u64,
+}
+
+fn carry(number: u64, word0: u64, word1: u64, word2: u64) -> Refusal
+    ensures { λ r. ⌜ refusalIn r ≡ refusal number word0 word1 word2 ⌝ }
+{
+    Refusal {
+        number: number,
+        word0: word0,
+        word1: word1,
+        word2: word2,
+    }
+}
+
+fn numbered(error: InstructionError) -> Refusal
+    ensures { λ r. ⌜ refusalIn r ≡ refusalOf error ⌝ }
+{
+    match error {
+        InstructionError::BadShape => carry(1, 0, 0, 0),
+        InstructionError::NotAWord => carry(2, 0, 0, 0),
+        InstructionError::UnknownOpcode => carry(3, 0, 0, 0),
+        InstructionError::BadArgument => carry(4, 0, 0, 0),
+        InstructionError::BadState => carry(5, 0, 0, 0),
+        InstructionError::MachineHalted => carry(10, 0, 0, 0),
+        InstructionError::InstructionPointerOverflow => carry(11, 0, 0, 0),
+        InstructionError::OpStackTooShallow => carry(12, 0, 0, 0),
+        InstructionError::FailedU32Conversion(w) => carry(13, w, 0, 0),
+        InstructionError::EmptyPublicInput(n) => carry(14, n, 0, 0),
+        InstructionError::EmptySecretInput(n) => carry(15, n, 0, 0),
+        InstructionError::EmptySecretDigestInput => carry(16, 0, 0, 0),
+        InstructionError::JumpStackIsEmpty => carry(17, 0, 0, 0),
+        InstructionError::AssertionFailed(actual) => carry(18, 1, actual, 0),
+        InstructionError::VectorAssertionFailed(i, expected, actual) => carry(
+            19,
+            i,
+            expected,
+            actual,
+        ),
+        InstructionError::InverseOfZero => carry(20, 0, 0, 0),
+        InstructionError::DivisionByZero => carry(21, 0, 0, 0),
+        InstructionError::LogarithmOfZero => carry(22, 0, 0, 0),
+        InstructionError::SpongeNotInitialized => carry(23, 0, 0, 0),
+        InstructionError::OpStackFull => carry(30, 0, 0, 0),
+        InstructionError::JumpStackFull => carry(31, 0, 0, 0),
+        InstructionError::RamFull => carry(32, 0, 0, 0),
+        InstructionError::OutputFull => carry(33, 0, 0, 0),
+        InstructionError::ClockAtEnd => carry(34, 0, 0, 0),
+    }
+}
+
+// Ended with no refusal, in one of the ways 0 to 2.
+fn unrefused(ending: u64, steps: u64, bytes: u64) -> Report
+    ensures { λ r. ⌜ r ≡ report ending unrefused steps bytes ⌝ }
+{
+    Report {
+        ending: ending,
+        number: 0,
+        word0: 0,
+        word1: 0,
+        word2: 0,
+        steps: steps,
+        bytes: bytes,
+    }
+}
+
+fn refused(error: InstructionError, steps: u64, bytes: u64) -> Report
+    ensures { λ r. ⌜ r ≡ report 3 (refusalOf error) steps bytes ⌝ }
+{
+    let refusal = numbered(error);
+    Report {
+        ending: 3,
+        number: refusal.number,
+        word0: refusal.word0,
+        word1: refusal.word1,
+        word2: refusal.word2,
+        steps: steps,
+        bytes: bytes,
+    }
+}
+
+pub fn step_report(answer: Answer, bytes: usize) -> Report
+    ensures { λ r. ⌜ r ≡ stepReport (answerIn answer) bytes ⌝ }
+{
+    match answer {
+        Answer::Took => unrefused(0, 1, bytes as u64),
+        Answer::Refused(error) => refused(error, 0, bytes as u64),
+    }
+}
+
+pub fn open_report(answer: Answer) -> Report
+    ensures { λ r. ⌜ r ≡ openReport (answerIn answer) ⌝ }
+{
+    match answer {
+        Answer::Took => unrefused(0, 0, 0),
+        Answer::Refused(error) => refused(error, 0, 0),
+    }
+}
+
+pub fn run_report(ending: Ending, count: u64) -> Report
+    ensures { λ r. ⌜ r ≡ runReport (endingIn ending) count ⌝ }
+{
+    match ending {
+        Ending::Halted => unrefused(0, count, 0),
+        Ending::Spent => unrefused(1, count, 0),
+        Ending::Refused(error) => refused(error, count, 0),
+    }
+}
+
+pub fn trace_report(ending: TraceEnding, count: u64, bytes: usize) -> Report
+    ensures { λ r. ⌜ r ≡ traceReport (traceEndingIn ending) count bytes ⌝ }
+{
+    match ending {
+        TraceEnding::Halted => unrefused(0, count, bytes as u64),
+        TraceEnding::Spent => unrefused(1, count, bytes as u64),
+        TraceEnding::Full => unrefused(2, count, bytes as u64),
+        TraceEnding::Refused(error) => refused(error, count, bytes as u64),
+    }
+}
+
+pub fn write_answer(answer: &mut [u64], report: Report)
+    requires { ⌜ length (now answer) ≡ 7 ⌝ }
+    ensures { λ _. ⌜ now (answer .exit) ≡ answerOf report ⌝ }
+{
+    let words = [
+        report.ending,
+        report.number,
+        report.word0,
+        report.word1,
+        report.word2,
+        report.steps,
+        report.bytes,
+    ];
+    copy(answer, 0, &words, 7);
+}
+
+// A slice of another length, or a word in the registers that no register can hold: an answer of seven words says so, any other stays.
+pub fn turn_down(answer: &mut [u64])
+    ensures { λ _. ⌜ now (answer .exit) ≡ saidOf (now (answer .entry)) misfit ⌝ }
+{
+    if answer.len() == 7 {
+        write_answer(
+            answer,
+            Report {
+                ending: 3,
+                number: 1,
+                word0: 0,
+                word1: 0,
+                word2: 0,
+                steps: 0,
+                bytes: 0,
+            },
+        );
+    }
+}
