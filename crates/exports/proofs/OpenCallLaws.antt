@@ -13,9 +13,9 @@ use Rattle.machine.specs.Apply.{Outcome, took, kept}
 use Rattle.machine.specs.PlaceA.{openA}
 use Rattle.machine.specs.Open.{opened, openOf}
 use Rattle.machine.proofs.Refused.{open-accepts, open-refuses}
-use Rattle.vm.specs.declared.answer.Answer.{Answer}
-use Rattle.vm.specs.declared.answer.Moved.{Moved}
-use Rattle.vm.specs.StepView.{did, answerIn, leftBy, Gives}
+use Rattle.inner_step.specs.declared.answer.Answer.{Answer}
+use Rattle.inner_step.specs.declared.answer.Moved.{Moved}
+use Rattle.inner_step.specs.AnswerView.{did, answerIn, leftBy, Gives}
 use Rattle.vm.specs.OpenView.{noState, Opens}
 use Rattle.exports.specs.declared.report.Report.{Report}
 use Rattle.exports.specs.Report.{misfit, answerOf, saidOf, openReport}

@@ -15,8 +15,8 @@ use Rattle.machine.specs.Step.{Stepped, stepOf}
 use Rattle.machine.proofs.Logged.{logged-none}
 use Rattle.machine.proofs.Step.{refused-buffer}
 use Rattle.machine.proofs.Refused.{step-refuses, run-refuses, open-refuses, helpers-refused}
-use Rattle.vm.specs.Trace.{traceExecutionOf}
-use Rattle.vm.specs.StepView.{answeredBy, leftBy}
+use Rattle.vm.specs.Trace.{traceA, traceExecutionOf}
+use Rattle.inner_step.specs.AnswerView.{answeredBy, leftBy}
 use Rattle.exports.specs.Registers.{stateOf}
 use Rattle.exports.specs.Report.{report, answerOf, stepReport}
 use Rattle.exports.specs.Calls.{Called, called, recorded, fitsOf, misfitted, reported}
@@ -77,12 +77,12 @@ module _ (w a : List ℕ) (c : Code) (m : Memory) (h : fitsOf w a 7 ≡ true) wh
   unfolding runCall
   run-refused budget z = rw h (ap runGives (run-refuses decideOf budget (machine (stateOf w) c m) z) ∙ same (plainly (machineA (machine (stateOf w) c m))))
 
-  pub trace-refused : (budget : ℕ) (b : List ℕ) → (stepA (machine (stateOf w) c m) b ≡ 0 → ⊥) →
-      traceCall budget w a c m b ≡ recorded (refusedCall w m (plainly (stepA (machine (stateOf w) c m) b))) b
+  pub trace-refused : (budget : ℕ) (b : List ℕ) → (traceA (machine (stateOf w) c m) b ≡ 0 → ⊥) →
+      traceCall budget w a c m b ≡ recorded (refusedCall w m (plainly (traceA (machine (stateOf w) c m) b))) b
   unfolding traceCall traceExecutionOf
   trace-refused budget b z =
-      rw (h, ne-eqb (stepA (machine (stateOf w) c m) b) 0 z)
-      (λ d. recorded (same (plainly (stepA (machine (stateOf w) c m) b)) d) (sym (logged-none b 0) d))
+      rw (h, ne-eqb (traceA (machine (stateOf w) c m) b) 0 z)
+      (λ d. recorded (same (plainly (traceA (machine (stateOf w) c m) b)) d) (sym (logged-none b 0) d))
 
 pub open-refused : (w a g : List ℕ) (n : ℕ) (c : Code) (m : Memory) → openFitsOf w a g ≡ true → (openA g c m n ≡ 0 → ⊥) →
     openCall w a g n c m ≡ refusedCall w m (plainly (openA g c m n))

@@ -6,8 +6,9 @@ use Prim.Native.Nat.{ℕ}
 use Rattle.machine.specs.declared.vm.VMState.{VMState}
 use Rattle.machine.specs.Machine.{Code, Memory, machine}
 use Rattle.machine.specs.Step.{stepOf}
-use Rattle.vm.specs.declared.answer.Stepped.{Stepped}
-use Rattle.vm.specs.StepView.{answerIn, Steps}
+use Rattle.inner_step.specs.declared.answer.Stepped.{Stepped}
+use Rattle.inner_step.specs.AnswerView.{answerIn}
+use Rattle.vm.specs.StepView.{Steps}
 use Rattle.exports.specs.declared.report.Report.{Report}
 use Rattle.exports.specs.Registers.{registersOf, stateOf}
 use Rattle.exports.specs.Report.{misfit, answerOf, saidOf, stepReport}

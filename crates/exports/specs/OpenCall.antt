@@ -10,7 +10,7 @@ use Rattle.machine.specs.Refusal.{Refusal}
 use Rattle.machine.specs.Machine.{Code, Memory}
 use Rattle.machine.specs.Apply.{Outcome, took, kept, lost}
 use Rattle.machine.specs.Open.{openOf}
-use Rattle.vm.specs.StepView.{did, turned}
+use Rattle.inner_step.specs.AnswerView.{did, turned}
 use Rattle.exports.specs.Registers.{registersOf}
 use Rattle.exports.specs.Report.{answerOf, openReport}
 use Rattle.exports.specs.Calls.{Called, called, misfitted, reported}

@@ -6,7 +6,7 @@ use lib.Dec.{eqb}
 use Rattle.machine.specs.Choice.{cond}
 use Rattle.machine.specs.Refusal.{Refusal, plainly}
 use Rattle.machine.specs.Step.{Ending, halted, spent, refused}
-use Rattle.vm.specs.StepView.{Answered, did, turned}
+use Rattle.inner_step.specs.AnswerView.{Answered, did, turned}
 use Rattle.vm.specs.Trace.{TraceEnding}
 use Rattle.vm.specs.Trace as T
 use Rattle.exports.specs.declared.report.Refusal.{Refusal as RefusalIn}

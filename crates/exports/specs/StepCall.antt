@@ -4,7 +4,7 @@ use Prim.Native.Nat.{ℕ}
 use Rattle.machine.specs.Choice.{cond}
 use Rattle.machine.specs.Machine.{Code, Memory, Machine, machine}
 use Rattle.machine.specs.Step.{Stepped, stepOf}
-use Rattle.vm.specs.StepView.{answeredBy, leftBy}
+use Rattle.inner_step.specs.AnswerView.{answeredBy, leftBy}
 use Rattle.exports.specs.Registers.{stateOf}
 use Rattle.exports.specs.Report.{stepReport}
 use Rattle.exports.specs.Calls.{Recorded, recorded, fitsOf, misfitted, reported}

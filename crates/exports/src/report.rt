@@ -2,13 +2,13 @@
 ghost use mathlib.Core.Path.{_≡_};
 ghost use lib.ListN.{length};
 ghost use Rattle.machine.specs.Refusal.{refusal, refusalOf};
-ghost use Rattle.vm.specs.StepView.{answerIn};
+ghost use Rattle.inner_step.specs.AnswerView.{answerIn};
 ghost use Rattle.vm.specs.RunView.{endingIn};
 ghost use Rattle.vm.specs.TraceView.{endingIn as traceEndingIn};
 ghost use Rattle.exports.specs.Report.{refusalIn, unrefused, report, misfit, answerOf, saidOf, stepReport, openReport, runReport, traceReport};
+use inner_step::answer::Answer;
 use machine::refusal::InstructionError;
 use tip5::words::copy;
-use vm::answer::Answer;
 use vm::answer::Ending;
 use vm::answer::TraceEnding;
 

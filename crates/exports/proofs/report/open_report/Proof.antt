@@ -1,8 +1,8 @@
 -- `exports::report::open_report` meets its contract. Assumes nothing.
 use borrow.Author.Needs.{needs}
 use mathlib.Core.Path.{sym, ap, _∙_}
-use Rattle.vm.specs.declared.answer.Answer.{Answer}
-use Rattle.vm.specs.StepView.{answerIn}
+use Rattle.inner_step.specs.declared.answer.Answer.{Answer}
+use Rattle.inner_step.specs.AnswerView.{answerIn}
 use Rattle.exports.specs.Report.{openReport}
 use Rattle.exports.proofs.report.open_report.Statement.{statement}
 use Rattle.exports.proofs.report.open_report.Tie as tie
