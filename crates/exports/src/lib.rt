@@ -1,6 +1,14 @@
-// The C interface: the machine's calls over numbers and slices.
+// The C interface: the machine's calls over numbers and slices. A slice goes over as a pointer and a length.
 //
-// registers, 27 words:
+// triton_open(registers, answer, digest, cells, code, memory)
+// triton_step(registers, answer, code, memory, calls)
+// triton_run(registers, answer, budget, code, memory)
+// triton_trace_execution(registers, answer, budget, code, memory, calls)
+// triton_helper_variables(registers, helpers, code, memory)
+//
+// code is opcodes, arguments, public, secret, digests, and memory is op_stack, origins, destinations, addresses, values, output: a slice each.
+//
+// registers, 27 words (specs/Registers.antt):
 //     0 clock, below 2^32
 //     1 pointer
 //     2 depth
@@ -13,16 +21,16 @@
 //     9 halted, 0 or 1
 //    10 whether the sponge is set, 0 or 1
 //    11 to 26 the sponge's words
-// answer, 7 words:
+// answer, 7 words (specs/Report.antt):
 //     0 how the call ended: 0 opened, taken or halted, 1 spent, 2 log full, 3 refused
 //     1 the refusal's number, 0 where the call is not refused
 //     2 to 4 the three words that the refusal carries
-//     5 how many steps succeeded
+//     5 how many steps succeeded: of step 1 or 0, of open 0
 //     6 how many bytes of records were written
-// helpers, 6 words.
+// digest, 5 words. helpers, 6 words, zeros where the call is refused.
 //
 // Each call gives the number too. One of these slices with another length, a clock at or above 2^32 and a mark other than 0 or 1 give 1: then
-// nothing lent is changed, and the answer says so where it has seven words.
+// nothing lent is changed, and an answer of seven words says so; one of another length stays. open does not read the registers, only their length.
 pub mod fits;
 pub mod helper_variables;
 pub mod open;
