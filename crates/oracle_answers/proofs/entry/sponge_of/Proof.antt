@@ -1,0 +1,56 @@
+-- `oracle_answers::entry::sponge_of` is safe and ends. Assumes nothing.
+use borrow.Author.Needs.{needs}
+use Prim.Native.Nat.{_-_, _≤_}
+use mathlib.Core.Path.{_≡_}
+use lib.ListN.{length}
+use Rattle.oracle_answers.proofs.entry.sponge_of.Statement.{statement}
+use Rattle.oracle_answers.proofs.entry.sponge_of.Tie as tie
+
+abbrev Inv-loop : tie.InvT-loop
+Inv-loop words from set out₀ i₀ out i = (i ≤ 16) × (length out ≡ 16)
+
+abbrev μ-loop : tie.MeasureT-loop
+μ-loop words from set out₀ i₀ out i = 16 - i
+
+loop-holds : tie.Need-loop-holds Inv-loop μ-loop
+loop-holds c = search needs
+
+plus-requires : tie.Need-plus-requires Inv-loop μ-loop
+plus-requires c κs = search needs
+
+word-requires : tie.Need-word-requires Inv-loop μ-loop
+word-requires c κs = search needs
+
+mul-out : tie.Need-mul-out Inv-loop μ-loop
+mul-out c = search needs
+
+array-write-out : tie.Need-array-write-out Inv-loop μ-loop
+array-write-out c = search needs
+
+add-i : tie.Need-add-i Inv-loop μ-loop
+add-i c = search needs
+
+loop-less : tie.Need-loop-less Inv-loop μ-loop
+loop-less c = search needs
+
+loop-again : tie.Need-loop-again Inv-loop μ-loop
+loop-again c = search needs
+
+returns : tie.Need-returns Inv-loop μ-loop
+returns c = search needs
+
+pub sponge-of-spec : {M : Type 1} → statement M
+sponge-of-spec =
+    tie.close
+    (tie.spec
+    Inv-loop
+    μ-loop
+    loop-holds
+    plus-requires
+    word-requires
+    mul-out
+    array-write-out
+    add-i
+    loop-less
+    loop-again
+    returns)
