@@ -23,7 +23,7 @@ struct Case {
 
 fn main() {
     let oracle = Oracle::new("bench");
-    println!("{:<34}{:<18}{:>12}{:>12}{:>8}", "job", "call", "library ns", "Rust ns", "ratio");
+    println!("{:<34}{:<18}{:>12}{:>10}{:>10}", "job", "call", "library ns", "Rust ns", "ratio");
     for case in cases() {
         report(&case, &oracle);
     }
@@ -55,7 +55,7 @@ fn report(case: &Case, oracle: &Oracle) {
         ("helper_variables", best[3], theirs[2]),
     ];
     for (call, ours, theirs) in rows {
-        println!("{:<34}{call:<18}{ours:>12.1}{theirs:>12.1}{:>8.2}", case.name, ours / theirs);
+        println!("{:<34}{call:<18}{ours:>12.1}{theirs:>10.1}{:>10.2}", case.name, ours / theirs);
     }
 }
 
@@ -138,6 +138,9 @@ fn cases() -> Vec<Case> {
         case("plain instructions, small", plain(), 30, 16, 64, 0, 16),
         case("plain instructions, middle", plain(), 300, 300, 512, 128, 256),
         case("plain instructions, large", plain(), 1024, 2000, 4096, 1000, 4096),
+        case("plain, program of 1,024 slots", plain(), 1024, 16, 64, 0, 16),
+        case("plain, stack of 4,096 words", plain(), 30, 2000, 4096, 0, 16),
+        case("plain, 1,000 cells of 4,096", plain(), 30, 16, 64, 1000, 4096),
         case(
             "u32 instructions",
             loop_of(&["push 9", "push 7", "and", "push 3", "div_mod", "lt", "pop 1"], 1000),

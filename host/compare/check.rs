@@ -21,8 +21,18 @@ fn same<T: PartialEq + Debug>(what: &str, expected: (&'static str, &T), found: (
     if expected.1 == found.1 {
         return Ok(());
     }
-    let sides = [(expected.0, format!("{:?}", expected.1)), (found.0, format!("{:?}", found.1))];
-    Err(Difference { what: what.to_string(), sides })
+    let texts = [format!("{:?}", expected.1), format!("{:?}", found.1)];
+    let alike = texts[0].bytes().zip(texts[1].bytes()).take_while(|(a, b)| a == b).count();
+    let [expected_text, found_text] = texts.map(|text| around(&text, alike));
+    Err(Difference { what: what.to_string(), sides: [(expected.0, expected_text), (found.0, found_text)] })
+}
+
+/// A long text cut to what stands around a place of it.
+fn around(text: &str, place: usize) -> String {
+    const SIDE: usize = 400;
+    let (from, to) = (place.saturating_sub(SIDE), (place + SIDE).min(text.len()));
+    let (left, right) = (if from > 0 { ".. " } else { "" }, if to < text.len() { " .." } else { "" });
+    format!("{left}{}{right}", &text[from..to])
 }
 
 /// The same machine twice: for the library and for the model.
@@ -178,13 +188,16 @@ impl Check<'_> {
         Ok(())
     }
 
-    /// The steps, the answer and the state of a run with this budget and, with a log, this length of it.
+    /// The answer, the state, the cells and the bytes of a run with this budget and, with a log, this length of it.
     fn run_to(&self, budget: u64, log: Option<usize>) -> (Answer, &State, Vec<(u64, u64)>, Vec<u8>) {
         let mut state = self.report.opened.as_ref().unwrap();
         let (mut cells, mut bytes) = (self.job.ram.clone(), vec![]);
         let mut taken = 0;
         let length = |bytes: &Vec<u8>| if log.is_some() { bytes.len() as u64 } else { 0 };
         let answer = loop {
+            if log.is_some_and(|log| log < STEP_BYTES) {
+                break [ending::REFUSED, 1, 0, 0, 0, 0, 0];
+            }
             let ended = |ending, bytes: &Vec<u8>| [ending, 0, 0, 0, 0, taken as u64, length(bytes)];
             if state.halted {
                 break ended(ending::DONE, &bytes);
@@ -233,11 +246,11 @@ impl Check<'_> {
         Ok(())
     }
 
-    /// Logs: room for all, one byte less than a step needs at the start, and one between.
+    /// Logs: room for all, one byte less than a step needs at the start (refused), and one between.
     fn traces(&self, start: &Both, random: &mut Random) -> Checked<()> {
         let budget = if self.report.end == End::Spent { self.report.steps } else { random.pick(&[u64::MAX, self.report.steps]) };
         let all = self.run_to(budget, Some(usize::MAX)).3.len();
-        for room in [all + STEP_BYTES, STEP_BYTES - 1, random.index(all + 2 * STEP_BYTES)] {
+        for room in [all + STEP_BYTES, STEP_BYTES - 1, STEP_BYTES + random.index(all + STEP_BYTES)] {
             let what = format!("trace_execution, budget {budget}, log of {room}");
             let filling = random.next() as u8;
             let mut both = start.clone();
