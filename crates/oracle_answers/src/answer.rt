@@ -1,7 +1,7 @@
 // What a step answers, as document 01's numbers.
+use inner_step::answer::Answer;
 use machine::refusal::InstructionError;
 use machine::vm::VMState;
-use vm::answer::Answer;
 
 // A number, and the three words that go with it.
 pub struct Answered {

@@ -11,8 +11,8 @@ use crate::words::same_bytes;
 use crate::words::same_six;
 use crate::words::same_three;
 use crate::words::word;
+use inner_step::answer::Stepped;
 use libc::STDOUT_FILENO;
-use vm::answer::Stepped;
 use vm::helper_variables::Helped;
 
 // A line where something differs. Gives back whether it is the same.
