@@ -195,9 +195,6 @@ impl Check<'_> {
         let mut taken = 0;
         let length = |bytes: &Vec<u8>| if log.is_some() { bytes.len() as u64 } else { 0 };
         let answer = loop {
-            if log.is_some_and(|log| log < STEP_BYTES) {
-                break [ending::REFUSED, 1, 0, 0, 0, 0, 0];
-            }
             let ended = |ending, bytes: &Vec<u8>| [ending, 0, 0, 0, 0, taken as u64, length(bytes)];
             if state.halted {
                 break ended(ending::DONE, &bytes);
@@ -246,11 +243,11 @@ impl Check<'_> {
         Ok(())
     }
 
-    /// Logs: room for all, one byte less than a step needs at the start (refused), and one between.
+    /// Logs: room for all, one byte less than a step needs at the start, and one between.
     fn traces(&self, start: &Both, random: &mut Random) -> Checked<()> {
         let budget = if self.report.end == End::Spent { self.report.steps } else { random.pick(&[u64::MAX, self.report.steps]) };
         let all = self.run_to(budget, Some(usize::MAX)).3.len();
-        for room in [all + STEP_BYTES, STEP_BYTES - 1, STEP_BYTES + random.index(all + STEP_BYTES)] {
+        for room in [all + STEP_BYTES, STEP_BYTES - 1, random.index(all + 2 * STEP_BYTES)] {
             let what = format!("trace_execution, budget {budget}, log of {room}");
             let filling = random.next() as u8;
             let mut both = start.clone();

@@ -244,11 +244,7 @@ fn run(
     mut memory: Memory,
     mut log: Option<&mut [u8]>,
 ) -> u64 {
-    let handed = match &log {
-        Some(calls) => Handed::Step { registers, answer, calls },
-        None => Handed::Run { registers, answer },
-    };
-    let number = place_a(&handed, code, &memory);
+    let number = place_a(&Handed::Run { registers, answer, log: log.as_deref().unwrap_or(&[]) }, code, &memory);
     if number != 0 {
         return answered(answer, 0, refused(number), 0, 0);
     }

@@ -39,7 +39,7 @@ impl Export {
     }
 }
 
-#[derive(Clone)]
+#[derive(Clone, Debug)]
 pub struct Input {
     pub machine: Machine,
     /// The answer, or the helper variables.
@@ -48,14 +48,6 @@ pub struct Input {
     pub bytes: Vec<u8>,
     pub cells: u64,
     pub budget: u64,
-}
-
-impl Input {
-    pub fn text(&self) -> String {
-        let Input { machine, answer, digest, bytes, cells, budget } = self;
-        let bytes = (bytes.len(), bytes.first());
-        format!("{machine:?}, answer {answer:?}, digest {digest:?}, bytes {bytes:?}, cells {cells}, budget {budget}")
-    }
 }
 
 /// Inputs made from one another: a few of any numbers, or one that fits and others damaged.
@@ -137,8 +129,8 @@ fn sound(export: Export, random: &mut Random) -> Input {
     let bytes = match export {
         Export::Step => STEP_BYTES + random.index(2),
         Export::Trace => {
-            let most = random.pick(&[2, 4_000, 20_000]);
-            STEP_BYTES + random.index(most)
+            let most = random.pick(&[2_000, 4_000, 20_000]);
+            random.index(most)
         }
         _ => 0,
     };

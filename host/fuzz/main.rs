@@ -51,9 +51,8 @@ impl Fuzz {
                 watched.since.store(self.start.elapsed().as_millis() as u64 + 1, Relaxed);
                 let number = compare(export, &input, &mut arenas).map_err(|text| {
                     format!(
-                        "{}: {text}\ninput: {}\nrepeat: fuzz piece {piece} {}; it is call {call}",
+                        "{}: {text}\ninput: {input:?}\nrepeat: fuzz piece {piece} {}; it is call {call}",
                         export.name(),
-                        input.text(),
                         self.seed
                     )
                 })?;

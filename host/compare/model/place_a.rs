@@ -5,26 +5,10 @@ use crate::lent::{answer, register, Code, Memory, LONGEST, STEP_BYTES};
 
 /// What a call takes besides code and memory.
 pub enum Handed<'a> {
-    Open {
-        registers: &'a [u64],
-        answer: &'a [u64],
-        digest: &'a [u64],
-        cells: u64,
-    },
-    /// Also `trace_execution`, with the log in place of the call buffer.
-    Step {
-        registers: &'a [u64],
-        answer: &'a [u64],
-        calls: &'a [u8],
-    },
-    Run {
-        registers: &'a [u64],
-        answer: &'a [u64],
-    },
-    Helpers {
-        registers: &'a [u64],
-        helpers: &'a [u64],
-    },
+    Open { registers: &'a [u64], answer: &'a [u64], digest: &'a [u64], cells: u64 },
+    Step { registers: &'a [u64], answer: &'a [u64], calls: &'a [u8] },
+    Run { registers: &'a [u64], answer: &'a [u64], log: &'a [u8] },
+    Helpers { registers: &'a [u64], helpers: &'a [u64] },
 }
 
 /// The number; 0 where nothing is wrong.
@@ -90,7 +74,9 @@ fn lengths_fit(handed: &Handed, code: Code, memory: &Memory) -> bool {
         Handed::Step { registers, answer, calls } => {
             answer.len() == answer::ALL && registers.len() == register::ALL && (STEP_BYTES..=LONGEST).contains(&calls.len())
         }
-        Handed::Run { registers, answer } => answer.len() == answer::ALL && registers.len() == register::ALL,
+        Handed::Run { registers, answer, log } => {
+            answer.len() == answer::ALL && registers.len() == register::ALL && log.len() <= LONGEST
+        }
         Handed::Helpers { registers, helpers } => helpers.len() == 6 && registers.len() == register::ALL,
     };
     own && code.opcodes.len().max(code.arguments.len()) <= LONGEST
