@@ -7,13 +7,13 @@ use Prim.Native.Nat.{ℕ}
 use borrow.Author.Tests.{ne-eqb}
 use lib.ListN.{replicate}
 use Rattle.machine.specs.Refusal.{Refusal, plainly}
-use Rattle.machine.specs.Machine.{Code, Memory, machine}
-use Rattle.machine.specs.Apply.{kept}
+use Rattle.machine.specs.Machine.{Code, Memory, Machine, machine}
+use Rattle.machine.specs.Apply.{kept, lost}
 use Rattle.machine.specs.PlaceA.{machineA, stepA, openA}
 use Rattle.machine.specs.Decide.{decideOf}
 use Rattle.machine.specs.Step.{Stepped, stepOf}
 use Rattle.machine.proofs.Logged.{logged-none}
-use Rattle.machine.proofs.Step.{refused-buffer}
+use Rattle.machine.proofs.Step.{refused-buffer, lost-buffer}
 use Rattle.machine.proofs.Refused.{step-refuses, run-refuses, open-refuses, helpers-refused}
 use Rattle.vm.specs.Trace.{traceA, traceExecutionOf}
 use Rattle.inner_step.specs.AnswerView.{answeredBy, leftBy}
@@ -69,6 +69,15 @@ module _ (w a : List ℕ) (c : Code) (m : Memory) (h : fitsOf w a 7 ≡ true) wh
       rw h
       ((λ d. recorded (reported (stepReport (answeredBy (e d)) (k .0 d)) (leftBy (machine (stateOf w) c m) (e d) .state) (leftBy (machine (stateOf w) c m) (e d) .memory)) (k .1 d))
       ∙ ap (λ (x : Called). recorded x b) (same r))
+
+  -- skiz that has dropped its word: the registers and the op stack are those with the word dropped
+  pub step-lost : (b : List ℕ) (r : Refusal) (x : Machine) → stepOf (machine (stateOf w) c m) b .outcome ≡ lost r x →
+      stepCall w a c m b ≡ recorded (reported (report 3 r 0 0) (x .state) (x .memory)) b
+  unfolding stepCall
+  step-lost b r x e =
+      let k = lost-buffer decideOf (machine (stateOf w) c m) b r x e in
+      rw h
+      (λ d. recorded (reported (stepReport (answeredBy (e d)) (k .0 d)) (leftBy (machine (stateOf w) c m) (e d) .state) (leftBy (machine (stateOf w) c m) (e d) .memory)) (k .1 d))
 
   pub step-refused : (b : List ℕ) → (stepA (machine (stateOf w) c m) b ≡ 0 → ⊥) → stepCall w a c m b ≡ recorded (refusedCall w m (plainly (stepA (machine (stateOf w) c m) b))) b
   step-refused b z = step-kept b _ (ap (λ (x : Stepped). x .outcome) (step-refuses decideOf (machine (stateOf w) c m) b z))
