@@ -15,7 +15,6 @@ use crate::words::plus;
 use crate::words::same;
 use crate::words::same_bytes;
 use crate::words::same_six;
-use crate::words::same_three;
 use crate::words::word;
 use libc::STDOUT_FILENO;
 use machine::vm::VMState;
@@ -48,17 +47,19 @@ pub fn helped_right(e: Entry, words: &[u64; 512], helped: Helped) -> bool {
     )
 }
 
-// The number and its words.
+// The number and the three words behind it.
 pub fn answer_right(e: Entry, words: &[u64; 512], answer: Answer) -> bool {
     let n = e.index;
     let places = e.places;
+    let at = places.number;
     let found = numbered(answer);
-    let three = found.words;
-    let number = found.number == word(words, places.number);
-    let carried = same_three(words, plus(places.number, 1), &three);
+    let number = found.number == word(words, at);
+    let first = found.first == word(words, plus(at, 1));
+    let second = found.second == word(words, plus(at, 2));
+    let third = found.third == word(words, plus(at, 3));
     both(
         told(n, b"number", number),
-        told(n, b"carried words", carried),
+        told(n, b"carried words", both(first, both(second, third))),
     )
 }
 

@@ -10,24 +10,75 @@ use crate::report::helped_right;
 use crate::report::memory_right;
 use crate::report::state_right;
 use crate::words::both;
+use machine::vm::VMState;
 use vm::answer::Stepped;
 use vm::helper_variables::helper_variables;
 use vm::step::step;
 
-// What the step gives back.
-fn stepped_right(
+fn helpers_right(
+    e: Entry,
+    words: &[u64; 512],
+    state: VMState,
+    opcodes: &[u64],
+    arguments: &[u64],
+    public: &[u64],
+    secret: &[u64],
+    digests: &[u64],
+    op_stack: &[u64],
+    origins: &[u64],
+    destinations: &[u64],
+    addresses: &[u64],
+    values: &[u64],
+    output: &[u64],
+) -> bool {
+    let helped = helper_variables(
+        state,
+        opcodes,
+        arguments,
+        public,
+        secret,
+        digests,
+        op_stack,
+        origins,
+        destinations,
+        addresses,
+        values,
+        output,
+    );
+    helped_right(e, words, helped)
+}
+
+// What the step answers, and what it leaves.
+fn step_right(
     e: Entry,
     b: &[u8; 2048],
     words: &[u64; 512],
     stepped: Stepped,
+    op_stack: &[u64],
+    origins: &[u64],
+    destinations: &[u64],
+    addresses: &[u64],
+    values: &[u64],
+    output: &[u64],
     calls: &[u8; 1024],
 ) -> bool {
     let answer = stepped.answer;
     let state = stepped.state;
     let told = answer_right(e, words, answer);
     let registers = state_right(e, b, words, state);
+    let memory = memory_right(
+        e,
+        b,
+        words,
+        op_stack,
+        origins,
+        destinations,
+        addresses,
+        values,
+        output,
+    );
     let records = calls_right(e, b, stepped.bytes, calls);
-    both(told, both(registers, records))
+    both(both(told, registers), both(memory, records))
 }
 
 // With the whole machine lent: the helper variables, then the step.
@@ -48,7 +99,9 @@ fn of_machine(
     output: &mut [u64],
 ) -> bool {
     let before = state_before(e, b, words);
-    let helped = helper_variables(
+    let helpers = helpers_right(
+        e,
+        words,
         before,
         opcodes,
         arguments,
@@ -79,20 +132,20 @@ fn of_machine(
         output,
         &mut buffer[..most],
     );
-    let variables = helped_right(e, words, helped);
-    let moved = stepped_right(e, b, words, stepped, &buffer);
-    let memory = memory_right(
+    let moved = step_right(
         e,
         b,
         words,
+        stepped,
         op_stack,
         origins,
         destinations,
         addresses,
         values,
         output,
+        &buffer,
     );
-    both(variables, both(moved, memory))
+    both(helpers, moved)
 }
 
 // With the code lent: the memory is made.

@@ -129,10 +129,6 @@ pub fn same(words: &[u64; 512], from: usize, stride: usize, n: usize, s: &[u64])
     true
 }
 
-pub fn same_three(words: &[u64; 512], from: usize, s: &[u64; 3]) -> bool {
-    same(words, from, 1, 3, s)
-}
-
 pub fn same_six(words: &[u64; 512], from: usize, s: &[u64; 6]) -> bool {
     same(words, from, 1, 6, s)
 }

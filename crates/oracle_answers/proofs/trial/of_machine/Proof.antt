@@ -8,8 +8,8 @@ use Rattle.oracle_answers.proofs.trial.of_machine.Tie as tie
 state-before-requires : tie.Need-state-before-requires
 state-before-requires c κs = search needs
 
-helper-variables-requires : tie.Need-helper-variables-requires
-helper-variables-requires c κs = search needs
+helpers-right-requires : tie.Need-helpers-right-requires
+helpers-right-requires c κs = search needs
 
 room-requires : tie.Need-room-requires
 room-requires c κs = search needs
@@ -23,20 +23,11 @@ slice-aggregate-step c = sym (length-take-le _ _ (search needs))
 step-requires : tie.Need-step-requires
 step-requires c κs = search needs
 
-helped-right-requires : tie.Need-helped-right-requires
-helped-right-requires c κs = search needs
-
-stepped-right-requires : tie.Need-stepped-right-requires
-stepped-right-requires c κs = search needs
-
-memory-right-requires : tie.Need-memory-right-requires
-memory-right-requires c κs = search needs
+step-right-requires : tie.Need-step-right-requires
+step-right-requires c κs = search needs
 
 both-requires : tie.Need-both-requires
 both-requires c κs = search needs
-
-both-requires-2 : tie.Need-both-requires-2
-both-requires-2 c κs = search needs
 
 same-length : tie.Need-same-length
 same-length c = search needs
@@ -64,16 +55,13 @@ of-machine-spec =
     tie.close
     (tie.spec
     state-before-requires
-    helper-variables-requires
+    helpers-right-requires
     room-requires
     array-borrow-prefix-buffer
     slice-aggregate-step
     step-requires
-    helped-right-requires
-    stepped-right-requires
-    memory-right-requires
+    step-right-requires
     both-requires
-    both-requires-2
     same-length
     same-length-2
     same-length-3
