@@ -1,6 +1,6 @@
 //! Machines damaged in one place or two, for every reason that place A has to refuse a step, and such as it must not refuse.
 use crate::field::P;
-use crate::instructions::{decode, ALL};
+use crate::instructions::{decode, Instruction, ALL};
 use crate::lent::{register, Machine, STEP_BYTES};
 
 /// A machine, and how long a call buffer is lent.
@@ -14,8 +14,9 @@ type Damage = Box<dyn Fn(&mut Damaged)>;
 
 /// One damage each, pairs of two numbers for their order, and words and counts at the edge of what is accepted.
 pub fn list() -> Vec<Damaged> {
-    let singles: Vec<Damage> = [lengths(), words(), slots(), states(), edges()].into_iter().flatten().collect();
-    let pairs = [lengths(), words(), slots(), states()].map(|damages| damages.into_iter().step_by(6).collect::<Vec<_>>());
+    let refused = || [lengths(), words(), opcodes(), arguments(), states()];
+    let singles: Vec<Damage> = refused().into_iter().flatten().chain(edges()).collect();
+    let pairs = refused().map(|damages| damages.into_iter().step_by(7).collect::<Vec<_>>());
     let mut list = vec![sound()];
     list.extend(singles.iter().map(|damage| with(&[damage])));
     for (i, numbers) in pairs.iter().enumerate() {
@@ -113,19 +114,27 @@ fn words() -> Vec<Damage> {
     damages
 }
 
-/// Numbers 3 and 4: an opcode that is none, also one that is no word; an argument at the edges of what is allowed.
-fn slots() -> Vec<Damage> {
+/// Number 3: an opcode that is none, also one that is no word.
+fn opcodes() -> Vec<Damage> {
     let unknown = (0..=100).filter(|&opcode| decode(opcode).is_none()).step_by(9).chain([P, u64::MAX]);
-    let mut damages: Vec<Damage> = unknown.enumerate().map(|(i, opcode)| put(1, i % 4, opcode)).collect();
-    for instruction in ALL.iter().step_by(3) {
-        for argument in [0, 1, 5, 6, 15, 16, P - 1].into_iter().filter(|&argument| !instruction.allows(argument)).take(2) {
-            damages.push(of_machine(move |machine| {
-                machine.opcodes[2] = instruction.opcode;
+    unknown.enumerate().map(|(i, opcode)| put(1, 3 - i % 4, opcode)).collect()
+}
+
+/// Number 4: an argument just outside of what is allowed.
+fn arguments() -> Vec<Damage> {
+    let outside = |instruction: &'static Instruction| {
+        let edges = [0, 1, 5, 6, 15, 16, P - 1].into_iter().filter(|&argument| !instruction.allows(argument));
+        edges.take(2).map(move |argument| (instruction.opcode, argument))
+    };
+    let slots = ALL.iter().step_by(3).flat_map(outside);
+    slots
+        .map(|(opcode, argument)| {
+            of_machine(move |machine| {
+                machine.opcodes[2] = opcode;
                 machine.arguments[2] = argument;
-            }));
-        }
-    }
-    damages
+            })
+        })
+        .collect()
 }
 
 /// Number 5: depth, counts and positions outside, unused words that are not 0, an address twice.
@@ -151,7 +160,8 @@ fn states() -> Vec<Damage> {
 
 /// Accepted: what is not looked at, and counts that are just as long as their slices.
 fn edges() -> Vec<Damage> {
-    let mut damages: Vec<Damage> = [(9, 3), (9, 4), (10, 3), (11, 0), (11, 3)].map(|(slice, place)| put(slice, place, u64::MAX)).into();
+    let mut damages: Vec<Damage> =
+        [(9, 3), (9, 4), (10, 3), (11, 0), (11, 3)].map(|(slice, place)| put(slice, place, u64::MAX)).into();
     damages.push(put(9, 4, P - 1));
     let full = [
         (register::DEPTH, 20),

@@ -10,10 +10,12 @@ use crate::words::word;
 use machine::vm::VMState;
 use tip5::sponge::Sponge;
 
-// The words follow the eighteen bytes of the head. The registers are the first, the slots come behind them.
+// The words follow the eighteen bytes of the head.
 pub const HEAD: usize = 18;
 
+// Seven registers and the sponge's words come first, then the slots.
 pub const SLOTS: usize = 23;
+
 // How many words a full entry says besides.
 pub const BESIDES: usize = 21;
 
@@ -205,7 +207,7 @@ fn sponge_at(words: &[u64; 512], from: usize, set: bool) -> Sponge {
     }
 }
 
-// A count of memory: a full entry says it besides.
+// A count of memory, at place i of the head. A full entry says it besides, behind thirteen other words.
 fn used(e: Entry, b: &[u8; 2048], words: &[u64; 512], i: usize) -> usize {
     if e.full {
         besides(e, words, plus(i, 5)) as usize
