@@ -55,8 +55,8 @@ impl Entry {
         let mut bytes = vec![];
         bytes.extend([before.opcodes.len(), before.public.len(), before.secret.len(), before.digests.len() / 5].map(|n| n as u8));
         bytes.extend([before.op_stack.len(), before.origins.len(), before.addresses.len(), before.output.len()].map(|n| n as u8));
-        bytes.extend(COUNTS.map(|place| before.registers[place] as u8));
-        bytes.extend(COUNTS.map(|place| after.registers[place] as u8));
+        bytes.extend(counts_of(before).map(|n| n as u8));
+        bytes.extend(counts_of(after).map(|n| n as u8));
         bytes.extend((self.calls.len() as u16).to_le_bytes());
 
         put_registers(&mut bytes, before);
@@ -64,12 +64,12 @@ impl Entry {
         put_words(&mut bytes, &before.public);
         put_words(&mut bytes, &before.secret);
         put_words(&mut bytes, &before.digests);
-        put_memory(&mut bytes, before);
+        put_memory(&mut bytes, before, counts_of(before));
 
         put_words(&mut bytes, &[self.number]);
         put_words(&mut bytes, &self.words);
         put_registers(&mut bytes, after);
-        put_memory(&mut bytes, after);
+        put_memory(&mut bytes, after, counts_of(after));
         put_words(&mut bytes, &self.helpers);
         bytes.extend(&self.calls);
         bytes
@@ -99,13 +99,54 @@ impl Entry {
     }
 }
 
+/// A full entry: lengths and counts of any kind, which it says besides.
+pub struct Full {
+    pub entry: Entry,
+    /// How long a call buffer is lent.
+    pub room: usize,
+    pub helper_number: u64,
+}
+
+impl Full {
+    /// An entry of as many words as are lent; slices that go together, and digests, are filled up with zeros.
+    pub fn encode(&self) -> Vec<u8> {
+        let (before, after) = (even(&self.entry.before), even(&self.entry.after));
+        let entry = Entry { before, after, ..self.entry.clone() };
+        let mut bytes = entry.encode();
+        bytes[4..8].fill(0);
+        let (registers_before, registers_after) = (&self.entry.before.registers, &self.entry.after.registers);
+        let mut besides: Vec<u64> = self.entry.before.slices()[1..].iter().map(|slice| slice.len() as u64).collect();
+        besides.extend([self.room as u64, self.helper_number]);
+        besides.extend(COUNTS.map(|place| registers_before[place]));
+        besides.extend(COUNTS.map(|place| registers_after[place]));
+        bytes.truncate(bytes.len() - entry.calls.len());
+        put_words(&mut bytes, &besides);
+        bytes.extend(&entry.calls);
+        bytes
+    }
+}
+
+/// The machine with all of memory used, and slices that go together as long.
+fn even(machine: &Machine) -> Machine {
+    let mut machine = machine.clone();
+    let [_, opcodes, arguments, _, _, digests, _, origins, destinations, addresses, values, _] = machine.slices_mut();
+    for (left, right) in [(opcodes, arguments), (origins, destinations), (addresses, values)] {
+        let length = left.len().max(right.len());
+        left.resize(length, 0);
+        right.resize(length, 0);
+    }
+    digests.resize(digests.len().next_multiple_of(5), 0);
+    let lengths = [machine.op_stack.len(), machine.origins.len(), machine.addresses.len(), machine.output.len()];
+    COUNTS.iter().zip(lengths).for_each(|(&place, length)| machine.registers[place] = length as u64);
+    machine
+}
+
 /// The file: the number of entries, then each with its length in front.
-pub fn encode_all(entries: &[Entry]) -> Vec<u8> {
+pub fn encode_all(entries: &[Vec<u8>]) -> Vec<u8> {
     let mut file = (entries.len() as u32).to_le_bytes().to_vec();
     for entry in entries {
-        let bytes = entry.encode();
-        file.extend((bytes.len() as u16).to_le_bytes());
-        file.extend(bytes);
+        file.extend((entry.len() as u16).to_le_bytes());
+        file.extend(entry);
     }
     file
 }
@@ -139,8 +180,12 @@ fn put_registers(bytes: &mut Vec<u8>, machine: &Machine) {
     put_words(bytes, &machine.registers[register::SPONGE..]);
 }
 
-fn put_memory(bytes: &mut Vec<u8>, machine: &Machine) {
-    let [depth, jumps, cells, outputs] = COUNTS.map(|place| machine.registers[place] as usize);
+fn counts_of(machine: &Machine) -> [usize; 4] {
+    COUNTS.map(|place| machine.registers[place] as usize)
+}
+
+/// As much of memory as is counted.
+fn put_memory(bytes: &mut Vec<u8>, machine: &Machine, [depth, jumps, cells, outputs]: [usize; 4]) {
     put_words(bytes, &machine.op_stack[..depth]);
     put_pairs(bytes, &machine.origins[..jumps], &machine.destinations[..jumps]);
     put_pairs(bytes, &machine.addresses[..cells], &machine.values[..cells]);

@@ -2,6 +2,7 @@
 //! the oracle's answers.
 pub mod check;
 pub mod counts;
+pub mod damaged;
 pub mod entries;
 pub mod ffi;
 pub mod field;

@@ -1,7 +1,9 @@
 //! sample write FILE: a fixed list of single steps with the oracle's answers, for programs that have no oracle at hand.
-//! sample check FILE: the list read back, and each entry taken by the model and the library.
+//! sample damaged FILE: a fixed list of damaged machines with the model's answers.
+//! sample check FILE: the first list read back, and each entry taken by the model and the library.
 use host::check::{least, limited, used, write_cells};
-use host::entries::{decode_all, encode_all, fits, most, Entry};
+use host::damaged::{list, Damaged};
+use host::entries::{decode_all, encode_all, fits, most, Entry, Full};
 use host::ffi::Library;
 use host::instructions::{Instruction, ALL};
 use host::job::{Before, Job, Room};
@@ -23,9 +25,10 @@ fn main() {
     let words: Vec<String> = std::env::args().skip(1).collect();
     match words.iter().map(String::as_str).collect::<Vec<_>>()[..] {
         ["write", file] => write(file),
+        ["damaged", file] => damaged(file),
         ["check", file] => check(file),
         _ => {
-            eprintln!("sample write FILE\nsample check FILE");
+            eprintln!("sample write FILE\nsample damaged FILE\nsample check FILE");
             exit(2)
         }
     }
@@ -50,12 +53,38 @@ fn write(file: &str) {
             entries.push(entry);
         }
     });
-    let bytes = encode_all(&entries);
-    std::fs::write(file, &bytes).unwrap();
     chosen.print();
+    save(file, &entries.iter().map(Entry::encode).collect::<Vec<_>>());
+}
+
+fn save(file: &str, entries: &[Vec<u8>]) {
+    let bytes = encode_all(entries);
+    std::fs::write(file, &bytes).unwrap();
     println!("{} entries, {} bytes", entries.len(), bytes.len());
-    let longest = entries.iter().map(|entry| entry.encode().len()).max();
-    println!("the longest entry has {} bytes", longest.unwrap());
+    println!("the longest entry has {} bytes", entries.iter().map(Vec::len).max().unwrap());
+}
+
+/// Damaged machines, each with what the model answers.
+fn damaged(file: &str) {
+    let entries: Vec<Full> = list().iter().map(full).collect();
+    let mut by_number = BTreeMap::<u64, usize>::new();
+    entries.iter().for_each(|full| *by_number.entry(full.entry.number).or_default() += 1);
+    by_number.iter().for_each(|(number, count)| println!("number {number:<4}{count:>5}"));
+    let entries: Vec<Vec<u8>> = entries.iter().map(Full::encode).collect();
+    assert!(entries.iter().all(|entry| entry.len() <= most::ENTRY));
+    save(file, &entries);
+}
+
+fn full(damaged: &Damaged) -> Full {
+    let before = damaged.machine.clone();
+    let mut after = before.clone();
+    let (helper_number, helpers) = after.helper_variables(&Model);
+    let mut calls = vec![0; damaged.room];
+    let answer = after.step(&Model, &mut calls);
+    calls.truncate(answer[answer::BYTES] as usize);
+    let words = answer[answer::WORDS..answer::STEPS].try_into().unwrap();
+    let entry = Entry { before, number: answer[answer::NUMBER], words, after, helpers, calls };
+    Full { entry, room: damaged.room, helper_number }
 }
 
 /// Without what the instruction has nothing to do with, most times.

@@ -6,21 +6,22 @@ use machine::vm::VMState;
 // A number, and the three words that go with it.
 pub struct Answered {
     pub number: u64,
-    pub words: [u64; 3],
+    pub first: u64,
+    pub second: u64,
+    pub third: u64,
+}
+
+fn carrying(number: u64, first: u64, second: u64, third: u64) -> Answered {
+    Answered {
+        number: number,
+        first: first,
+        second: second,
+        third: third,
+    }
 }
 
 fn plain(number: u64) -> Answered {
-    Answered {
-        number: number,
-        words: [0u64; 3],
-    }
-}
-
-fn carrying(number: u64, a: u64, b: u64, c: u64) -> Answered {
-    Answered {
-        number: number,
-        words: [a, b, c],
-    }
+    carrying(number, 0, 0, 0)
 }
 
 fn refused(error: InstructionError) -> Answered {

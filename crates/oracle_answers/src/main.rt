@@ -1,5 +1,5 @@
-// Takes each step of the list on its standard input and compares what comes out with the original Rust's answers, which
-// stand in the list: host/compare/sample writes it, and host/compare/FORMAT.md says how it is laid out.
+// Takes the steps of two lists on its standard input, and compares what comes out with the answers that stand in them: the
+// original Rust's, and for damaged machines the model's. host/compare/sample writes the lists, FORMAT.md there has the bytes.
 ghost use Prim.Native.Nat.{_<_};
 
 mod answer;
@@ -8,7 +8,10 @@ mod report;
 mod trial;
 mod words;
 
+use entry::BESIDES;
+use entry::Entry;
 use entry::HEAD;
+use entry::Places;
 use libc::STDIN_FILENO;
 use libc::STDOUT_FILENO;
 
@@ -35,19 +38,28 @@ fn little(b: &[u8; 2048]) -> u64
     low + 65536 * high
 }
 
-fn step_entry(index: u64, b: &[u8; 2048], len: usize) -> Seen {
-    let mut e = entry::layout(b);
-    let d = words::decode(b, HEAD, words::plus(e.helpers, 6));
+// How many words an entry has.
+fn word_count(p: Places, full: bool) -> usize {
+    let end = words::plus(p.helpers, 6);
+    if full { words::plus(end, BESIDES) } else { end }
+}
+
+fn tried(index: u64, full: bool, b: &[u8; 2048], len: usize) -> Seen {
+    let p = entry::places_of(b);
+    let d = words::decode(b, HEAD, word_count(p, full));
     let all = d.words;
-    let number = words::word(&all, e.number);
-    e.index = index;
-    e.helped = entry::place_a(number);
-    e.calls = d.behind;
-    let whole = report::told(index, b"length", words::plus(e.calls, e.bytes) == len);
+    let end = words::plus(d.behind, entry::bytes_of_calls(b));
+    let e = Entry {
+        index: index,
+        full: full,
+        places: p,
+        calls: d.behind,
+    };
+    let whole = report::told(index, b"length", end == len);
     let same = trial::right(e, b, &all);
     Seen {
-        number: number,
-        same: whole && same,
+        number: words::word(&all, p.number),
+        same: words::both(whole, same),
     }
 }
 
@@ -82,7 +94,7 @@ fn print(tally: &[u64; 64]) {
     }
 }
 
-fn list() {
+fn list(full: bool) {
     let count = little(&read(4));
     let mut tally = [0u64; 64];
     let mut differ: u64 = 0;
@@ -90,7 +102,7 @@ fn list() {
     while i < count {
         let len = little(&read(2)) as usize;
         let b = read(len);
-        let seen = step_entry(i, &b, len);
+        let seen = tried(i, full, &b, len);
         note(&mut tally, seen.number);
         differ = more(differ, seen.same);
         i += 1;
@@ -103,5 +115,8 @@ fn list() {
 }
 
 fn main() {
-    list();
+    io::write_all(STDOUT_FILENO, b"single steps\n");
+    list(false);
+    io::write_all(STDOUT_FILENO, b"damaged machines\n");
+    list(true);
 }

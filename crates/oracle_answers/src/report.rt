@@ -2,17 +2,23 @@
 use crate::answer::numbered;
 use crate::answer::same_registers;
 use crate::answer::same_sponge;
+use crate::entry::AFTER;
 use crate::entry::Entry;
-use crate::entry::row;
-use crate::entry::state;
+use crate::entry::bytes_of_calls;
+use crate::entry::helper_number;
+use crate::entry::place_in;
+use crate::entry::state_after;
+use crate::entry::stride;
+use crate::entry::words_in;
+use crate::words::both;
 use crate::words::plus;
 use crate::words::same;
 use crate::words::same_bytes;
 use crate::words::same_six;
-use crate::words::same_three;
 use crate::words::word;
-use inner_step::answer::Stepped;
+use inner_step::answer::Answer;
 use libc::STDOUT_FILENO;
+use machine::vm::VMState;
 use vm::helper_variables::Helped;
 
 // A line where something differs. Gives back whether it is the same.
@@ -28,39 +34,61 @@ pub fn told(entry: u64, what: &[u8], same: bool) -> bool {
     false
 }
 
-// The helper variables before the step, and their number.
+// The helper call.
 pub fn helped_right(e: Entry, words: &[u64; 512], helped: Helped) -> bool {
+    let n = e.index;
+    let places = e.places;
     let six = helped.helpers;
-    let number = told(e.index, b"helper number", helped.number == e.helped);
-    let variables = told(
-        e.index,
-        b"helper variables",
-        same_six(words, row(e.helpers, 6), &six),
-    );
-    number && variables
+    let number = helped.number == helper_number(e, words);
+    let variables = same_six(words, places.helpers, &six);
+    both(
+        told(n, b"helper number", number),
+        told(n, b"helper variables", variables),
+    )
 }
 
-// The number and its words, and the registers.
-pub fn answer_right(e: Entry, words: &[u64; 512], stepped: Stepped) -> bool {
-    let answer = stepped.answer;
+// The number and the three words behind it.
+pub fn answer_right(e: Entry, words: &[u64; 512], answer: Answer) -> bool {
+    let n = e.index;
+    let places = e.places;
+    let at = places.number;
     let found = numbered(answer);
-    let three = found.words;
-    let after = stepped.state;
-    let wanted = state(words, e.registers_after, e.counts_after);
-    let number = told(e.index, b"number", found.number == word(words, e.number));
-    let carried = told(
-        e.index,
-        b"carried words",
-        same_three(words, row(plus(e.number, 1), 3), &three),
-    );
-    let registers = told(e.index, b"registers", same_registers(after, wanted));
-    let sponge = told(e.index, b"sponge", same_sponge(after, wanted));
-    number && carried && registers && sponge
+    let number = found.number == word(words, at);
+    let first = found.first == word(words, plus(at, 1));
+    let second = found.second == word(words, plus(at, 2));
+    let third = found.third == word(words, plus(at, 3));
+    both(
+        told(n, b"number", number),
+        told(n, b"carried words", both(first, both(second, third))),
+    )
 }
 
-// What was lent to be changed, whole.
+pub fn state_right(e: Entry, b: &[u8; 2048], words: &[u64; 512], state: VMState) -> bool {
+    let n = e.index;
+    let wanted = state_after(e, b, words);
+    let registers = same_registers(state, wanted);
+    let sponge = same_sponge(state, wanted);
+    both(told(n, b"registers", registers), told(n, b"sponge", sponge))
+}
+
+// A slice of memory, whole.
+fn slice_right(
+    e: Entry,
+    b: &[u8; 2048],
+    words: &[u64; 512],
+    i: usize,
+    what: &[u8],
+    s: &[u64],
+) -> bool {
+    let places = e.places;
+    let from = place_in(places.after, i);
+    let alike = same(words, from, stride(i), words_in(b, AFTER, i), s);
+    told(e.index, what, alike)
+}
+
 pub fn memory_right(
     e: Entry,
+    b: &[u8; 2048],
     words: &[u64; 512],
     op_stack: &[u64],
     origins: &[u64],
@@ -69,24 +97,22 @@ pub fn memory_right(
     values: &[u64],
     output: &[u64],
 ) -> bool {
-    let n = e.index;
-    let after = e.after;
-    let stack = told(n, b"op stack", same(words, after.op_stack, op_stack));
-    let from = told(n, b"origins", same(words, after.origins, origins));
-    let to = told(
-        n,
-        b"destinations",
-        same(words, after.destinations, destinations),
-    );
-    let at = told(n, b"addresses", same(words, after.addresses, addresses));
-    let held = told(n, b"values", same(words, after.values, values));
-    let put = told(n, b"output", same(words, after.output, output));
-    stack && from && to && at && held && put
+    let deep = slice_right(e, b, words, 5, b"op stack", op_stack);
+    let from = slice_right(e, b, words, 6, b"origins", origins);
+    let to = slice_right(e, b, words, 7, b"destinations", destinations);
+    let at = slice_right(e, b, words, 8, b"addresses", addresses);
+    let held = slice_right(e, b, words, 9, b"values", values);
+    let put = slice_right(e, b, words, 10, b"output", output);
+    both(deep, both(both(from, to), both(both(at, held), put)))
 }
 
 // How many bytes of calls there are, and the whole buffer.
 pub fn calls_right(e: Entry, b: &[u8; 2048], bytes: usize, calls: &[u8; 1024]) -> bool {
-    let count = told(e.index, b"bytes of calls", bytes == e.bytes);
-    let all = told(e.index, b"calls", same_bytes(b, e.calls, e.bytes, calls));
-    count && all
+    let n = e.index;
+    let wanted = bytes_of_calls(b);
+    let all = same_bytes(b, e.calls, wanted, calls);
+    both(
+        told(n, b"bytes of calls", bytes == wanted),
+        told(n, b"calls", all),
+    )
 }

@@ -1,15 +1,85 @@
 // One entry: the machine is made, its step is taken, and what comes out is compared.
 use crate::entry::Entry;
-use crate::entry::state;
+use crate::entry::lent;
+use crate::entry::room;
+use crate::entry::slice;
+use crate::entry::state_before;
 use crate::report::answer_right;
 use crate::report::calls_right;
 use crate::report::helped_right;
 use crate::report::memory_right;
-use crate::words::filled;
-use crate::words::least;
-use crate::words::lent;
+use crate::report::state_right;
+use crate::words::both;
+use inner_step::answer::Stepped;
+use machine::vm::VMState;
 use vm::helper_variables::helper_variables;
 use vm::step::step;
+
+fn helpers_right(
+    e: Entry,
+    words: &[u64; 512],
+    state: VMState,
+    opcodes: &[u64],
+    arguments: &[u64],
+    public: &[u64],
+    secret: &[u64],
+    digests: &[u64],
+    op_stack: &[u64],
+    origins: &[u64],
+    destinations: &[u64],
+    addresses: &[u64],
+    values: &[u64],
+    output: &[u64],
+) -> bool {
+    let helped = helper_variables(
+        state,
+        opcodes,
+        arguments,
+        public,
+        secret,
+        digests,
+        op_stack,
+        origins,
+        destinations,
+        addresses,
+        values,
+        output,
+    );
+    helped_right(e, words, helped)
+}
+
+// What the step answers, and what it leaves.
+fn step_right(
+    e: Entry,
+    b: &[u8; 2048],
+    words: &[u64; 512],
+    stepped: Stepped,
+    op_stack: &[u64],
+    origins: &[u64],
+    destinations: &[u64],
+    addresses: &[u64],
+    values: &[u64],
+    output: &[u64],
+    calls: &[u8; 1024],
+) -> bool {
+    let answer = stepped.answer;
+    let state = stepped.state;
+    let told = answer_right(e, words, answer);
+    let registers = state_right(e, b, words, state);
+    let memory = memory_right(
+        e,
+        b,
+        words,
+        op_stack,
+        origins,
+        destinations,
+        addresses,
+        values,
+        output,
+    );
+    let records = calls_right(e, b, stepped.bytes, calls);
+    both(both(told, registers), both(memory, records))
+}
 
 // With the whole machine lent: the helper variables, then the step.
 fn of_machine(
@@ -28,8 +98,10 @@ fn of_machine(
     values: &mut [u64],
     output: &mut [u64],
 ) -> bool {
-    let before = state(words, e.registers, e.counts);
-    let helped = helper_variables(
+    let before = state_before(e, b, words);
+    let helpers = helpers_right(
+        e,
+        words,
         before,
         opcodes,
         arguments,
@@ -44,7 +116,7 @@ fn of_machine(
         output,
     );
     let mut buffer = [0u8; 1024];
-    let room = least(e.room, 1024);
+    let most = room(e, words);
     let stepped = step(
         before,
         opcodes,
@@ -58,22 +130,22 @@ fn of_machine(
         addresses,
         values,
         output,
-        &mut buffer[..room],
+        &mut buffer[..most],
     );
-    let variables = helped_right(e, words, helped);
-    let answer = answer_right(e, words, stepped);
-    let memory = memory_right(
+    let moved = step_right(
         e,
+        b,
         words,
+        stepped,
         op_stack,
         origins,
         destinations,
         addresses,
         values,
         output,
+        &buffer,
     );
-    let calls = calls_right(e, b, stepped.bytes, &buffer);
-    variables && answer && memory && calls
+    both(helpers, moved)
 }
 
 // With the code lent: the memory is made.
@@ -87,19 +159,18 @@ fn of_code(
     secret: &[u64],
     digests: &[u64],
 ) -> bool {
-    let memory = e.before;
-    let mut op_stack = filled(words, memory.op_stack);
-    let mut origins = filled(words, memory.origins);
-    let mut destinations = filled(words, memory.destinations);
-    let mut addresses = filled(words, memory.addresses);
-    let mut values = filled(words, memory.values);
-    let mut output = filled(words, memory.output);
-    let deep = lent(memory.op_stack);
-    let from = lent(memory.origins);
-    let to = lent(memory.destinations);
-    let at = lent(memory.addresses);
-    let held = lent(memory.values);
-    let put = lent(memory.output);
+    let mut op_stack = slice(e, b, words, 5);
+    let mut origins = slice(e, b, words, 6);
+    let mut destinations = slice(e, b, words, 7);
+    let mut addresses = slice(e, b, words, 8);
+    let mut values = slice(e, b, words, 9);
+    let mut output = slice(e, b, words, 10);
+    let deep = lent(e, b, words, 5);
+    let from = lent(e, b, words, 6);
+    let to = lent(e, b, words, 7);
+    let at = lent(e, b, words, 8);
+    let held = lent(e, b, words, 9);
+    let put = lent(e, b, words, 10);
     of_machine(
         e,
         b,
@@ -120,17 +191,16 @@ fn of_code(
 
 // Whether all is as the entry has it.
 pub fn right(e: Entry, b: &[u8; 2048], words: &[u64; 512]) -> bool {
-    let code = e.code;
-    let opcodes = filled(words, code.opcodes);
-    let arguments = filled(words, code.arguments);
-    let public = filled(words, code.public);
-    let secret = filled(words, code.secret);
-    let digests = filled(words, code.digests);
-    let slots = lent(code.opcodes);
-    let args = lent(code.arguments);
-    let publics = lent(code.public);
-    let secrets = lent(code.secret);
-    let fives = lent(code.digests);
+    let opcodes = slice(e, b, words, 0);
+    let arguments = slice(e, b, words, 1);
+    let public = slice(e, b, words, 2);
+    let secret = slice(e, b, words, 3);
+    let digests = slice(e, b, words, 4);
+    let slots = lent(e, b, words, 0);
+    let args = lent(e, b, words, 1);
+    let publics = lent(e, b, words, 2);
+    let secrets = lent(e, b, words, 3);
+    let fives = lent(e, b, words, 4);
     of_code(
         e,
         b,

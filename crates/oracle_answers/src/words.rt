@@ -3,14 +3,6 @@ ghost use mathlib.Core.Path.{_≡_};
 ghost use Prim.Native.Nat.{_≤_, _<_};
 ghost use lib.ListN.{length};
 
-// Some of an entry's words: `count` of them, each `stride` behind the one before. A slice of `lent` words is lent for them.
-pub struct Part {
-    pub from: usize,
-    pub stride: usize,
-    pub count: usize,
-    pub lent: usize,
-}
-
 // The words at the start of an entry, and the place of the byte behind them.
 pub struct Decoded {
     pub words: [u64; 512],
@@ -22,6 +14,10 @@ pub fn least(a: usize, b: usize) -> usize
     ensures { λ r. ⌜ (r ≤ a) × (r ≤ b) ⌝ }
 {
     if a < b { a } else { b }
+}
+
+pub fn both(a: bool, b: bool) -> bool {
+    a && b
 }
 
 // The sum, or 4,096 where it is more: nothing stands there.
@@ -99,53 +95,42 @@ pub fn word(words: &[u64; 512], i: usize) -> u64 {
     if i < 512 { words[i] } else { 0 }
 }
 
-// The word of a part at place i, which stands at `at`, or the 0 behind the part.
-fn word_of(words: &[u64; 512], part: Part, i: usize, at: usize) -> u64 {
-    if i < part.count { word(words, at) } else { 0 }
+// The word at a place where i is below n, else 0.
+fn word_below(words: &[u64; 512], at: usize, i: usize, n: usize) -> u64 {
+    if i < n { word(words, at) } else { 0 }
 }
 
-// The words of a part, and zeros.
-pub fn filled(words: &[u64; 512], part: Part) -> [u64; 64]
+// n words, each `stride` behind the one before, and zeros.
+pub fn filled(words: &[u64; 512], from: usize, stride: usize, n: usize) -> [u64; 64]
     ensures { λ r. ⌜ 64 ≡ length r ⌝ }
 {
     let mut out = [0u64; 64];
-    let mut at = part.from;
+    let mut at = from;
     let mut i = 0;
     while i < 64 {
-        out[i] = word_of(words, part, i, at);
-        at = plus(at, part.stride);
+        out[i] = word_below(words, at, i, n);
+        at = plus(at, stride);
         i += 1;
     }
     out
 }
 
-// How many words of such an array are lent.
-pub fn lent(part: Part) -> usize
-    ensures { λ r. ⌜ r ≤ 64 ⌝ }
-{
-    least(part.lent, 64)
-}
-
-// Whether a slice has the words of a part, and zeros behind them.
-pub fn same(words: &[u64; 512], part: Part, s: &[u64]) -> bool {
-    let mut at = part.from;
+// Whether a slice has such words, and zeros behind them.
+pub fn same(words: &[u64; 512], from: usize, stride: usize, n: usize, s: &[u64]) -> bool {
+    let mut at = from;
     let mut i = 0;
     while i < s.len() {
-        if s[i] != word_of(words, part, i, at) {
+        if s[i] != word_below(words, at, i, n) {
             return false;
         }
-        at = plus(at, part.stride);
+        at = plus(at, stride);
         i += 1;
     }
     true
 }
 
-pub fn same_three(words: &[u64; 512], part: Part, s: &[u64; 3]) -> bool {
-    same(words, part, s)
-}
-
-pub fn same_six(words: &[u64; 512], part: Part, s: &[u64; 6]) -> bool {
-    same(words, part, s)
+pub fn same_six(words: &[u64; 512], from: usize, s: &[u64; 6]) -> bool {
+    same(words, from, 1, 6, s)
 }
 
 // Whether a call buffer has n bytes of the entry from a byte on, and zeros behind them.

@@ -5,10 +5,10 @@ use Rattle.oracle_answers.proofs.list.Statement.{statement}
 use Rattle.oracle_answers.proofs.list.Tie as tie
 
 abbrev Inv-loop : tie.InvT-loop
-Inv-loop count tally₀ differ₀ i₀ t8 t9 tally differ i = i ≤ count
+Inv-loop full count tally₀ differ₀ i₀ t9 t10 tally differ i = i ≤ count
 
 abbrev μ-loop : tie.MeasureT-loop
-μ-loop count tally₀ differ₀ i₀ t8 t9 tally differ i = count - i
+μ-loop full count tally₀ differ₀ i₀ t9 t10 tally differ i = count - i
 
 read-requires : tie.Need-read-requires Inv-loop μ-loop
 read-requires c κs = search needs
@@ -28,8 +28,8 @@ little-requires-2 c κs = search needs
 read-requires-3 : tie.Need-read-requires-3 Inv-loop μ-loop
 read-requires-3 c κs = search needs
 
-step-entry-requires : tie.Need-step-entry-requires Inv-loop μ-loop
-step-entry-requires c κs = search needs
+tried-requires : tie.Need-tried-requires Inv-loop μ-loop
+tried-requires c κs = search needs
 
 note-requires : tie.Need-note-requires Inv-loop μ-loop
 note-requires c κs = search needs
@@ -82,7 +82,7 @@ list-spec =
     read-requires-2
     little-requires-2
     read-requires-3
-    step-entry-requires
+    tried-requires
     note-requires
     more-requires
     add-i

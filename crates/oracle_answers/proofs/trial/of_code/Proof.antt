@@ -5,23 +5,23 @@ use borrow.Author.Needs.{needs}
 use Rattle.oracle_answers.proofs.trial.of_code.Statement.{statement}
 use Rattle.oracle_answers.proofs.trial.of_code.Tie as tie
 
-filled-requires : tie.Need-filled-requires
-filled-requires c κs = search needs
+slice-requires : tie.Need-slice-requires
+slice-requires c κs = search needs
 
-filled-requires-2 : tie.Need-filled-requires-2
-filled-requires-2 c κs = search needs
+slice-requires-2 : tie.Need-slice-requires-2
+slice-requires-2 c κs = search needs
 
-filled-requires-3 : tie.Need-filled-requires-3
-filled-requires-3 c κs = search needs
+slice-requires-3 : tie.Need-slice-requires-3
+slice-requires-3 c κs = search needs
 
-filled-requires-4 : tie.Need-filled-requires-4
-filled-requires-4 c κs = search needs
+slice-requires-4 : tie.Need-slice-requires-4
+slice-requires-4 c κs = search needs
 
-filled-requires-5 : tie.Need-filled-requires-5
-filled-requires-5 c κs = search needs
+slice-requires-5 : tie.Need-slice-requires-5
+slice-requires-5 c κs = search needs
 
-filled-requires-6 : tie.Need-filled-requires-6
-filled-requires-6 c κs = search needs
+slice-requires-6 : tie.Need-slice-requires-6
+slice-requires-6 c κs = search needs
 
 lent-requires : tie.Need-lent-requires
 lent-requires c κs = search needs
@@ -87,12 +87,12 @@ pub of-code-spec : {M : Type 1} → statement M
 of-code-spec =
     tie.close
     (tie.spec
-    filled-requires
-    filled-requires-2
-    filled-requires-3
-    filled-requires-4
-    filled-requires-5
-    filled-requires-6
+    slice-requires
+    slice-requires-2
+    slice-requires-3
+    slice-requires-4
+    slice-requires-5
+    slice-requires-6
     lent-requires
     lent-requires-2
     lent-requires-3

@@ -7,16 +7,16 @@ use Rattle.oracle_answers.proofs.words.filled.Statement.{statement}
 use Rattle.oracle_answers.proofs.words.filled.Tie as tie
 
 abbrev Inv-loop : tie.InvT-loop
-Inv-loop words part out₀ at₀ i₀ out at i = (i ≤ 64) × (length out ≡ 64)
+Inv-loop words from stride n out₀ at₀ i₀ out at i = (i ≤ 64) × (length out ≡ 64)
 
 abbrev μ-loop : tie.MeasureT-loop
-μ-loop words part out₀ at₀ i₀ out at i = 64 - i
+μ-loop words from stride n out₀ at₀ i₀ out at i = 64 - i
 
 loop-holds : tie.Need-loop-holds Inv-loop μ-loop
 loop-holds c = search needs
 
-word-of-requires : tie.Need-word-of-requires Inv-loop μ-loop
-word-of-requires c κs = search needs
+word-below-requires : tie.Need-word-below-requires Inv-loop μ-loop
+word-below-requires c κs = search needs
 
 mul-out : tie.Need-mul-out Inv-loop μ-loop
 mul-out c = search needs
@@ -46,7 +46,7 @@ filled-spec =
     Inv-loop
     μ-loop
     loop-holds
-    word-of-requires
+    word-below-requires
     mul-out
     array-write-out
     plus-requires

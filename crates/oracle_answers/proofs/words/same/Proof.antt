@@ -6,10 +6,10 @@ use Rattle.oracle_answers.proofs.words.same.Statement.{statement}
 use Rattle.oracle_answers.proofs.words.same.Tie as tie
 
 abbrev Inv-loop : tie.InvT-loop
-Inv-loop words part s at₀ i₀ at i = i ≤ length s
+Inv-loop words from stride n s at₀ i₀ at i = i ≤ length s
 
 abbrev μ-loop : tie.MeasureT-loop
-μ-loop words part s at₀ i₀ at i = length s - i
+μ-loop words from stride n s at₀ i₀ at i = length s - i
 
 loop-holds : tie.Need-loop-holds Inv-loop μ-loop
 loop-holds c = search needs
@@ -20,8 +20,8 @@ mul-if1 c = search needs
 shared-slice-read-if1 : tie.Need-shared-slice-read-if1 Inv-loop μ-loop
 shared-slice-read-if1 c = search needs
 
-word-of-requires : tie.Need-word-of-requires Inv-loop μ-loop
-word-of-requires c κs = search needs
+word-below-requires : tie.Need-word-below-requires Inv-loop μ-loop
+word-below-requires c κs = search needs
 
 returns : tie.Need-returns Inv-loop μ-loop
 returns c = search needs
@@ -50,7 +50,7 @@ same-spec =
     loop-holds
     mul-if1
     shared-slice-read-if1
-    word-of-requires
+    word-below-requires
     returns
     plus-requires
     add-i

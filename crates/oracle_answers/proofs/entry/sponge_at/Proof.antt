@@ -1,10 +1,10 @@
--- `oracle_answers::entry::sponge_of` is safe and ends. Assumes nothing.
+-- `oracle_answers::entry::sponge_at` is safe and ends. Assumes nothing.
 use borrow.Author.Needs.{needs}
 use Prim.Native.Nat.{_-_, _≤_}
 use mathlib.Core.Path.{_≡_}
 use lib.ListN.{length}
-use Rattle.oracle_answers.proofs.entry.sponge_of.Statement.{statement}
-use Rattle.oracle_answers.proofs.entry.sponge_of.Tie as tie
+use Rattle.oracle_answers.proofs.entry.sponge_at.Statement.{statement}
+use Rattle.oracle_answers.proofs.entry.sponge_at.Tie as tie
 
 abbrev Inv-loop : tie.InvT-loop
 Inv-loop words from set out₀ i₀ out i = (i ≤ 16) × (length out ≡ 16)
@@ -39,8 +39,8 @@ loop-again c = search needs
 returns : tie.Need-returns Inv-loop μ-loop
 returns c = search needs
 
-pub sponge-of-spec : {M : Type 1} → statement M
-sponge-of-spec =
+pub sponge-at-spec : {M : Type 1} → statement M
+sponge-at-spec =
     tie.close
     (tie.spec
     Inv-loop
