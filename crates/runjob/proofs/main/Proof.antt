@@ -1,0 +1,102 @@
+use Prim.Native.Nat.{ℕ, _+_, _*_, _-_, _/_, _%_, _^_, _<_, _≤_}
+use native.Mathlib.Omega.{arith}
+use mathlib.Core.Path.{_≡_, refl, sym, ap, _∙_}
+use Rattle.runjob.proofs.StartLaws.{blank, room}
+use borrow.Author.Needs.{needs}
+use Rattle.runjob.proofs.main.Statement.{statement}
+use Rattle.runjob.proofs.main.Tie as tie
+use Rattle.runjob.proofs.main.Reads as reads
+use Rattle.runjob.proofs.main.Lts as lts
+use Rattle.io.proofs.read_full.Reads as read-full-reads
+use Rattle.runjob.proofs.log_space.Reads as log-space-reads
+use Rattle.runjob.proofs.print_job.Reads as print-job-reads
+use Rattle.runjob.proofs.text_space.Reads as text-space-reads
+
+log-space-requires : tie.Need-log-space-requires
+log-space-requires c κs = search needs
+
+text-space-requires : tie.Need-text-space-requires
+text-space-requires c κs = search needs
+
+slice-aggregate-read-full : tie.Need-slice-aggregate-read-full
+slice-aggregate-read-full c = search needs
+
+read-full-requires : tie.Need-read-full-requires
+read-full-requires c κs = search needs
+
+array-share-prefix-input : tie.Need-array-share-prefix-input
+array-share-prefix-input c = search needs
+
+slice-aggregate-print-job : tie.Need-slice-aggregate-print-job
+slice-aggregate-print-job c = search needs
+
+slice-aggregate-print-job-2 : tie.Need-slice-aggregate-print-job-2
+slice-aggregate-print-job-2 c = search needs
+
+slice-aggregate-print-job-3 : tie.Need-slice-aggregate-print-job-3
+slice-aggregate-print-job-3 c = search needs
+
+slice-aggregate-print-job-4 : tie.Need-slice-aggregate-print-job-4
+slice-aggregate-print-job-4 c = search needs
+
+slice-aggregate-print-job-5 : tie.Need-slice-aggregate-print-job-5
+slice-aggregate-print-job-5 c = search needs
+
+slice-aggregate-print-job-6 : tie.Need-slice-aggregate-print-job-6
+slice-aggregate-print-job-6 c = search needs
+
+slice-aggregate-print-job-7 : tie.Need-slice-aggregate-print-job-7
+slice-aggregate-print-job-7 c = search needs
+
+slice-aggregate-print-job-8 : tie.Need-slice-aggregate-print-job-8
+slice-aggregate-print-job-8 c = search needs
+
+slice-aggregate-print-job-9 : tie.Need-slice-aggregate-print-job-9
+slice-aggregate-print-job-9 c = search needs
+
+slice-aggregate-print-job-10 : tie.Need-slice-aggregate-print-job-10
+slice-aggregate-print-job-10 c = search needs
+
+slice-aggregate-print-job-11 : tie.Need-slice-aggregate-print-job-11
+slice-aggregate-print-job-11 c = search needs
+
+slice-aggregate-print-job-12 : tie.Need-slice-aggregate-print-job-12
+slice-aggregate-print-job-12 c = search needs
+
+slice-aggregate-print-job-13 : tie.Need-slice-aggregate-print-job-13
+slice-aggregate-print-job-13 c = search needs
+
+slice-aggregate-print-job-14 : tie.Need-slice-aggregate-print-job-14
+slice-aggregate-print-job-14 c = search needs
+
+print-job-requires : tie.Need-print-job-requires
+print-job-requires c κs = (blank refl refl refl refl refl refl refl refl refl refl refl, room (c .before .before .before .before .before .before .before .before .before .before .before .before .before .before .before .before .before .before .log-space .result) (c .before .before .before .before .before .before .before .before .before .before .before .before .before .before .before .before .before .text-space .result) (c .before .before .before .before .before .before .before .before .before .before .before .before .before .before .before .before .before .before .log-space .ensures) (c .before .before .before .before .before .before .before .before .before .before .before .before .before .before .before .before .before .text-space .ensures))
+
+returns : tie.Need-returns
+returns c = search needs
+
+pub main-spec : {M : Type 1} → statement M
+main-spec =
+    tie.close
+    (tie.spec
+    log-space-requires
+    text-space-requires
+    slice-aggregate-read-full
+    read-full-requires
+    array-share-prefix-input
+    slice-aggregate-print-job
+    slice-aggregate-print-job-2
+    slice-aggregate-print-job-3
+    slice-aggregate-print-job-4
+    slice-aggregate-print-job-5
+    slice-aggregate-print-job-6
+    slice-aggregate-print-job-7
+    slice-aggregate-print-job-8
+    slice-aggregate-print-job-9
+    slice-aggregate-print-job-10
+    slice-aggregate-print-job-11
+    slice-aggregate-print-job-12
+    slice-aggregate-print-job-13
+    slice-aggregate-print-job-14
+    print-job-requires
+    returns)

@@ -1,0 +1,5 @@
+-- What the contracts cite.
+pub mod Refusals
+pub mod Pieces
+pub mod PieceView
+pub mod StartView
