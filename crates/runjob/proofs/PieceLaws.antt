@@ -1,23 +1,21 @@
 -- What trace_execution gives is a part of the run: its log has the run's first records, and what is left of the run follows from the
 -- machine that it left. So a piece's text is the first part of what is to be printed. Assumes nothing.
 use mathlib.Core.Path.{_≡_, refl, sym, ap, subst, _∙_}
-use mathlib.Core.Bool.{Bool, true, false, not, true≢false}
+use mathlib.Core.Bool.{Bool, true, false, true≢false}
 use mathlib.Core.List.{List, [], _∷_, _++_, append-assoc, append-nil}
 use Prim.Native.Nat.{ℕ, zero, suc, zero-le, _+_, _-_, _*_, _≤_, _<_}
 use native.Mathlib.Omega.{arith}
 use borrow.Author.Tests.{eq-eqb, lt-ltb, le-ltb, ltb-true, ltb-false}
-use lib.ListN.{length, take, drop, length-append, length-drop}
+use lib.ListN.{length, take, drop, length-append}
 use lib.Seq.{take-at, length-take-le}
-use lib.Dec.{eqb, ltb}
+use lib.Dec.{ltb}
 use Rattle.machine.specs.Choice.{cond}
 use Rattle.machine.specs.Refusal.{Refusal, refusalOf, plainly}
-use Rattle.machine.specs.Machine.{Code, Memory, Machine, machine}
+use Rattle.machine.specs.Machine.{Memory, Machine, machine}
 use Rattle.machine.specs.PlaceA.{longest}
-use Rattle.machine.specs.Effect.{Effect}
 use Rattle.machine.specs.Decide.{decideOf}
 use Rattle.machine.specs.Apply.{Outcome, took, kept, lost}
-use Rattle.machine.specs.Records.{Record, recordsOf, logBytes}
-use Rattle.machine.specs.Logged.{logged}
+use Rattle.machine.specs.Records.{Record, logBytes}
 use Rattle.machine.specs.Step as R
 use Rattle.machine.specs.Step.{Ran, ran, onStep, recordsIn, outcomeBy, stepsBy}
 use Rattle.machine.specs.Sound.{Sound}
@@ -311,10 +309,6 @@ assembled done n c m x rs log (E.Refused r) l h k =
 -- a text stands inside what it was put in
 pub put-inside : {b b2 s : List ℕ} {most next : ℕ} → Put b b2 0 s most next → next ≤ length b2
 put-inside {b} {b2} {s} p = let long : length b2 ≡ length s + length (drop (length s) b) = ap length (p .is ∙ logged-front b s) ∙ length-append s _ in omega (arith, long, p .end)
-
-pub was-true : (b : Bool) → not b ≡ false → b ≡ true
-was-true true h = refl
-was-true false h = absurd (true≢false h)
 
 -- place A finds nothing wrong
 accepted : {done budget : ℕ} {m : Machine} {log text : List ℕ} → Ready done budget m log text → traceExecutionOf budget m log ≡ tracesOf budget (length log) m

@@ -1,16 +1,15 @@
 -- What starting a job gives, by the contracts of reading and opening it. Assumes nothing.
 use mathlib.Core.Path.{_≡_, refl, sym, ap, subst, _∙_}
 use mathlib.Core.Bool.{Bool, true, false}
-use mathlib.Core.List.{List, [], _∷_, _++_}
+use mathlib.Core.List.{List}
 use Prim.Native.Nat.{ℕ, _+_, _≤_}
 use native.Mathlib.Omega.{arith}
 use borrow.Author.Tests.{eqb-true, eqb-false, eq-eqb, ne-eqb}
 use lib.ListN.{length, take, drop, replicate, length-append, length-replicate}
 use lib.Seq.{take-at}
 use lib.Dec.{eqb}
-use Rattle.machine.specs.declared.vm.VMState.{VMState}
 use Rattle.machine.specs.Choice.{cond, firstOf}
-use Rattle.machine.specs.Refusal.{Refusal, plainly}
+use Rattle.machine.specs.Refusal.{plainly}
 use Rattle.machine.specs.Machine.{Code, Memory, Machine, machine, code, memory}
 use Rattle.machine.specs.Apply.{Outcome, took, kept, lost}
 use Rattle.machine.specs.Logged.{logged}
@@ -23,15 +22,15 @@ use Rattle.machine.proofs.PlaceA.{open-sound}
 use Rattle.inner_step.specs.declared.answer.Answer.{Answer}
 use Rattle.inner_step.specs.declared.answer.Answer.the-variants as A
 use Rattle.inner_step.specs.declared.answer.Moved.{Moved}
-use Rattle.inner_step.specs.AnswerView.{Answered, did, turned, answerIn, answeredBy, leftBy, Gives}
+use Rattle.inner_step.specs.AnswerView.{Answered, did, turned, answerIn, answeredBy, leftBy}
 use Rattle.vm.specs.OpenView.{noState, Opens}
 use Rattle.job.specs.declared.job_file.JobFile.{JobFile}
 use Rattle.job.specs.JobFile.{Job, Filled, jobOf}
 use Rattle.job.specs.JobFileView.{Lent, Says}
-use Rattle.job.specs.Printed.{runLines, notOpened, codeOf, memoryOf, onOpened, jobLines, printedOf}
+use Rattle.job.specs.Printed.{runLines, notOpened, codeOf, memoryOf, onOpened, jobLines}
 use Rattle.runjob.specs.Refusals.{numberIn}
 use Rattle.runjob.specs.PieceView.{Room}
-use Rattle.runjob.specs.StartView.{Blank, Inside, Starts}
+use Rattle.runjob.specs.StartView.{Blank, Starts}
 
 -- ---- the file's words
 

@@ -1,16 +1,9 @@
-use Prim.Native.Nat.{ℕ, _+_, _*_, _-_, _/_, _%_, _^_, _<_, _≤_}
-use native.Mathlib.Omega.{arith}
-use mathlib.Core.Path.{_≡_, refl, sym, ap, _∙_}
+-- `runjob::main` meets its contract. Assumes nothing.
+use mathlib.Core.Path.{refl}
 use Rattle.runjob.proofs.StartLaws.{blank, room}
 use borrow.Author.Needs.{needs}
 use Rattle.runjob.proofs.main.Statement.{statement}
 use Rattle.runjob.proofs.main.Tie as tie
-use Rattle.runjob.proofs.main.Reads as reads
-use Rattle.runjob.proofs.main.Lts as lts
-use Rattle.io.proofs.read_full.Reads as read-full-reads
-use Rattle.runjob.proofs.log_space.Reads as log-space-reads
-use Rattle.runjob.proofs.print_job.Reads as print-job-reads
-use Rattle.runjob.proofs.text_space.Reads as text-space-reads
 
 log-space-requires : tie.Need-log-space-requires
 log-space-requires c κs = search needs

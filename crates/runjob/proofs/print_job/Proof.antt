@@ -1,15 +1,10 @@
-use Prim.Native.Nat.{ℕ, _+_, _*_, _-_, _/_, _%_, _^_, _<_, _≤_}
+-- `runjob::print_job` meets its contract. Assumes nothing.
 use native.Mathlib.Omega.{arith}
-use mathlib.Core.Path.{_≡_, refl, sym, ap, _∙_}
+use mathlib.Core.Path.{sym}
 use lib.Seq.{length-take-le}
 use borrow.Author.Needs.{needs}
 use Rattle.runjob.proofs.print_job.Statement.{statement}
 use Rattle.runjob.proofs.print_job.Tie as tie
-use Rattle.runjob.proofs.print_job.Reads as reads
-use Rattle.runjob.proofs.print_job.Lts as lts
-use Rattle.runjob.proofs.print_refusal.Reads as print-refusal-reads
-use Rattle.runjob.proofs.print_run.Reads as print-run-reads
-use Rattle.runjob.proofs.start.start.Reads as start-reads
 
 start-requires : tie.Need-start-requires
 start-requires c κs = search needs

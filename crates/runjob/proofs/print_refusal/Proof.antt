@@ -1,15 +1,10 @@
-use Prim.Native.Nat.{ℕ, _+_, _*_, _-_, _/_, _%_, _^_, _<_, _≤_}
-use native.Mathlib.Omega.{arith}
-use mathlib.Core.Path.{_≡_, refl, sym, ap, _∙_}
+-- `runjob::print_refusal` meets its contract. Assumes nothing.
+use mathlib.Core.Path.{sym}
 use Rattle.runjob.proofs.PieceLaws.{put-inside}
 use lib.Seq.{length-take-le}
 use borrow.Author.Needs.{needs}
 use Rattle.runjob.proofs.print_refusal.Statement.{statement}
 use Rattle.runjob.proofs.print_refusal.Tie as tie
-use Rattle.runjob.proofs.print_refusal.Reads as reads
-use Rattle.runjob.proofs.print_refusal.Lts as lts
-use Rattle.io.proofs.write_all.Reads as write-all-reads
-use Rattle.job.proofs.listing.refused_line.Reads as refused-line-reads
 
 slice-aggregate-refused-line : tie.Need-slice-aggregate-refused-line
 slice-aggregate-refused-line c = search needs

@@ -1,18 +1,16 @@
-use Prim.Native.Nat.{ℕ, _+_, _*_, _-_, _/_, _%_, _^_, _<_, _≤_}
+-- `runjob::print_run` meets its contract. Assumes nothing.
+use borrow.Author.Tests.{not-false}
+use Prim.Native.Nat.{_-_, _≤_}
 use native.Mathlib.Omega.{arith}
-use mathlib.Core.Path.{_≡_, refl, sym, ap, _∙_}
+use mathlib.Core.Path.{_≡_, refl, sym}
 use borrow.Author.Needs.{needs}
 use lib.ListN.{length}
 use lib.Seq.{length-take-le}
 use Rattle.machine.specs.Machine.{machine, code, memory}
 use Rattle.runjob.specs.PieceView.{Ready}
-use Rattle.runjob.proofs.PieceLaws.{ready-first, ready-next, was-true}
+use Rattle.runjob.proofs.PieceLaws.{ready-first, ready-next}
 use Rattle.runjob.proofs.print_run.Statement.{statement}
 use Rattle.runjob.proofs.print_run.Tie as tie
-use Rattle.runjob.proofs.print_run.Reads as reads
-use Rattle.runjob.proofs.print_run.Lts as lts
-use Rattle.io.proofs.write_all.Reads as write-all-reads
-use Rattle.runjob.proofs.piece.piece.Reads as piece-reads
 
 abbrev Inv-loop : tie.InvT-loop
 Inv-loop budget opcodes arguments public secret digests op-stack₀ origins₀ destinations₀ addresses₀ values₀ output₀ log₀ text₀ state₀ done₀ op-stack origins destinations addresses values output log text state done =
@@ -54,7 +52,7 @@ add-done c = omega (arith, c .before .before .before .before .before .before .be
 loop-less : tie.Need-loop-less Inv-loop μ-loop
 loop-less c =
     let r = c .before .before .before .before .before .before .before .before .before .before .before .before .before .before .before .before .before .before .before .before .before .piece in
-    omega (arith, r .ensures .some (was-true (r .result .more) (c .before .before .if1 .left)), r .ensures .few, c .before .before .before .before .before .before .before .before .before .before .before .before .before .before .before .before .before .before .before .before .before .before .before .before .before .before .before .before .before .before .loop .inv .1)
+    omega (arith, r .ensures .some (not-false (r .result .more) (c .before .before .if1 .left)), r .ensures .few, c .before .before .before .before .before .before .before .before .before .before .before .before .before .before .before .before .before .before .before .before .before .before .before .before .before .before .before .before .before .before .loop .inv .1)
 
 loop-again : tie.Need-loop-again Inv-loop μ-loop
 loop-again c =

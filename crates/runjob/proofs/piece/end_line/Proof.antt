@@ -1,6 +1,7 @@
-use Prim.Native.Nat.{ℕ, _+_, _*_, _-_, _/_, _%_, _^_, _<_, _≤_}
+-- `runjob::piece::end_line` meets its contract. Assumes nothing.
+use Prim.Native.Nat.{ℕ}
 use native.Mathlib.Omega.{arith}
-use mathlib.Core.Path.{_≡_, refl, sym, ap, _∙_}
+use mathlib.Core.Path.{sym, ap, _∙_}
 use Rattle.vm.specs.declared.answer.TraceEnding.{TraceEnding}
 use Rattle.job.specs.Listing.{refusedLine}
 use denote.Ref.{now}
@@ -10,12 +11,6 @@ use Rattle.runjob.proofs.PieceLaws.{put-wide}
 use borrow.Author.Needs.{needs}
 use Rattle.runjob.proofs.piece.end_line.Statement.{statement}
 use Rattle.runjob.proofs.piece.end_line.Tie as tie
-use Rattle.runjob.proofs.piece.end_line.Reads as reads
-use Rattle.runjob.proofs.piece.end_line.Lts as lts
-use Rattle.job.proofs.listing.halted_line.Reads as halted-line-reads
-use Rattle.job.proofs.listing.refused_line.Reads as refused-line-reads
-use Rattle.job.proofs.listing.spent_line.Reads as spent-line-reads
-use Rattle.runjob.proofs.refusals.number.Reads as number-reads
 
 enum-told : tie.Need-enum-told
 enum-told c = search needs

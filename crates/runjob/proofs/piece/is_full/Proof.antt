@@ -1,12 +1,7 @@
-use Prim.Native.Nat.{ℕ, _+_, _*_, _-_, _/_, _%_, _^_, _<_, _≤_}
-use native.Mathlib.Omega.{arith}
-use mathlib.Core.Path.{_≡_, refl, sym, ap, _∙_}
-use lib.ListN.{length}
+-- `runjob::piece::is_full` meets its contract. Assumes nothing.
 use borrow.Author.Needs.{needs}
 use Rattle.runjob.proofs.piece.is_full.Statement.{statement}
 use Rattle.runjob.proofs.piece.is_full.Tie as tie
-use Rattle.runjob.proofs.piece.is_full.Reads as reads
-use Rattle.runjob.proofs.piece.is_full.Lts as lts
 
 enum-told : tie.Need-enum-told
 enum-told c = search needs

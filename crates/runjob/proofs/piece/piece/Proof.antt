@@ -1,16 +1,11 @@
-use Prim.Native.Nat.{ℕ, _+_, _*_, _-_, _/_, _%_, _^_, _<_, _≤_}
+-- `runjob::piece::piece` meets its contract. Assumes nothing.
 use native.Mathlib.Omega.{arith}
-use mathlib.Core.Path.{_≡_, refl, sym, ap, _∙_}
+use mathlib.Core.Path.{sym}
 use lib.Seq.{length-take-le}
 use Rattle.runjob.proofs.PieceLaws.{followed, piece-room, piece-writes}
 use borrow.Author.Needs.{needs}
 use Rattle.runjob.proofs.piece.piece.Statement.{statement}
 use Rattle.runjob.proofs.piece.piece.Tie as tie
-use Rattle.runjob.proofs.piece.piece.Reads as reads
-use Rattle.runjob.proofs.piece.piece.Lts as lts
-use Rattle.runjob.proofs.piece.is_full.Reads as is-full-reads
-use Rattle.runjob.proofs.piece.put_lines.Reads as put-lines-reads
-use Rattle.vm.proofs.trace.trace_execution.Reads as trace-execution-reads
 
 trace-execution-requires : tie.Need-trace-execution-requires
 trace-execution-requires c κs = search needs

@@ -1,17 +1,10 @@
-use Prim.Native.Nat.{ℕ, _+_, _*_, _-_, _/_, _%_, _^_, _<_, _≤_}
-use native.Mathlib.Omega.{arith}
-use mathlib.Core.Path.{_≡_, refl, sym, ap, _∙_}
+-- `runjob::piece::put_lines` meets its contract. Assumes nothing.
+use mathlib.Core.Path.{sym, _∙_}
 use denote.Ref.{now}
 use Rattle.runjob.proofs.PieceLaws.{lines-full, lines-ended}
 use borrow.Author.Needs.{needs}
 use Rattle.runjob.proofs.piece.put_lines.Statement.{statement}
 use Rattle.runjob.proofs.piece.put_lines.Tie as tie
-use Rattle.runjob.proofs.piece.put_lines.Reads as reads
-use Rattle.runjob.proofs.piece.put_lines.Lts as lts
-use Rattle.job.proofs.listing.out_lines.Reads as out-lines-reads
-use Rattle.job.proofs.log_lines.stack_lines.Reads as stack-lines-reads
-use Rattle.runjob.proofs.piece.end_line.Reads as end-line-reads
-use Rattle.runjob.proofs.piece.is_full.Reads as is-full-reads
 
 stack-lines-requires : tie.Need-stack-lines-requires
 stack-lines-requires c κs = search needs

@@ -1,12 +1,8 @@
-use Prim.Native.Nat.{ℕ, _+_, _*_, _-_, _/_, _%_, _^_, _<_, _≤_}
-use native.Mathlib.Omega.{arith}
-use mathlib.Core.Path.{_≡_, refl, sym, ap, _∙_}
+-- `runjob::refusals::number` meets its contract. Assumes nothing.
 use Rattle.machine.specs.Refusal.{refusalOf}
 use borrow.Author.Needs.{needs}
 use Rattle.runjob.proofs.refusals.number.Statement.{statement}
 use Rattle.runjob.proofs.refusals.number.Tie as tie
-use Rattle.runjob.proofs.refusals.number.Reads as reads
-use Rattle.runjob.proofs.refusals.number.Lts as lts
 
 enum-told : tie.Need-enum-told
 enum-told c = search needs

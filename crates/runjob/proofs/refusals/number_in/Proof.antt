@@ -1,13 +1,9 @@
-use Prim.Native.Nat.{ℕ, _+_, _*_, _-_, _/_, _%_, _^_, _<_, _≤_}
-use native.Mathlib.Omega.{arith}
-use mathlib.Core.Path.{_≡_, refl, sym, ap, _∙_}
+-- `runjob::refusals::number_in` meets its contract. Assumes nothing.
+use mathlib.Core.Path.{sym, ap, _∙_}
 use Rattle.runjob.specs.Refusals.{numberIn}
 use borrow.Author.Needs.{needs}
 use Rattle.runjob.proofs.refusals.number_in.Statement.{statement}
 use Rattle.runjob.proofs.refusals.number_in.Tie as tie
-use Rattle.runjob.proofs.refusals.number_in.Reads as reads
-use Rattle.runjob.proofs.refusals.number_in.Lts as lts
-use Rattle.runjob.proofs.refusals.number.Reads as number-reads
 
 enum-told : tie.Need-enum-told
 enum-told c = search needs

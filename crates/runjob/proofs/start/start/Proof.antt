@@ -1,18 +1,12 @@
-use Prim.Native.Nat.{ℕ, _+_, _*_, _-_, _/_, _%_, _^_, _<_, _≤_}
+-- `runjob::start::start` meets its contract. Assumes nothing.
 use native.Mathlib.Omega.{arith}
-use mathlib.Core.Path.{_≡_, refl, sym, ap, _∙_}
+use mathlib.Core.Path.{refl, sym}
 use lib.Seq.{length-take-le}
 use denote.Ref.{now}
 use Rattle.runjob.proofs.StartLaws.{filled-inside, zeros, starts}
 use borrow.Author.Needs.{needs}
 use Rattle.runjob.proofs.start.start.Statement.{statement}
 use Rattle.runjob.proofs.start.start.Tie as tie
-use Rattle.runjob.proofs.start.start.Reads as reads
-use Rattle.runjob.proofs.start.start.Lts as lts
-use Rattle.job.proofs.job_file.read_job.Reads as read-job-reads
-use Rattle.machine.proofs.checks.first.Reads as first-reads
-use Rattle.runjob.proofs.refusals.number_in.Reads as number-in-reads
-use Rattle.vm.proofs.open.open.Reads as open-reads
 
 read-job-requires : tie.Need-read-job-requires
 read-job-requires c κs =
