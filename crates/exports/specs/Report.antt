@@ -9,11 +9,7 @@ use Rattle.machine.specs.Step.{Ending, halted, spent, refused}
 use Rattle.inner_step.specs.AnswerView.{Answered, did, turned}
 use Rattle.vm.specs.Trace.{TraceEnding}
 use Rattle.vm.specs.Trace as T
-use Rattle.exports.specs.declared.report.Refusal.{Refusal as RefusalIn}
 use Rattle.exports.specs.declared.report.Report.{Report}
-
-abbrev pub refusalIn : RefusalIn → Refusal
-refusalIn r = record { number = r .number; word0 = r .word0; word1 = r .word1; word2 = r .word2 }
 
 abbrev pub report : ℕ → Refusal → ℕ → ℕ → Report
 report e r steps bytes =

@@ -1,68 +1,19 @@
 // What a step answers, as document 01's numbers.
 use inner_step::answer::Answer;
-use machine::refusal::InstructionError;
 use machine::vm::VMState;
+use vm::refusals::Refusal;
+use vm::refusals::numbered;
 
-// A number, and the three words that go with it.
-pub struct Answered {
-    pub number: u64,
-    pub first: u64,
-    pub second: u64,
-    pub third: u64,
-}
-
-fn carrying(number: u64, first: u64, second: u64, third: u64) -> Answered {
-    Answered {
-        number: number,
-        first: first,
-        second: second,
-        third: third,
-    }
-}
-
-fn plain(number: u64) -> Answered {
-    carrying(number, 0, 0, 0)
-}
-
-fn refused(error: InstructionError) -> Answered {
-    match error {
-        InstructionError::BadShape => plain(1),
-        InstructionError::NotAWord => plain(2),
-        InstructionError::UnknownOpcode => plain(3),
-        InstructionError::BadArgument => plain(4),
-        InstructionError::BadState => plain(5),
-        InstructionError::MachineHalted => plain(10),
-        InstructionError::InstructionPointerOverflow => plain(11),
-        InstructionError::OpStackTooShallow => plain(12),
-        InstructionError::FailedU32Conversion(w) => carrying(13, w, 0, 0),
-        InstructionError::EmptyPublicInput(left) => carrying(14, left, 0, 0),
-        InstructionError::EmptySecretInput(left) => carrying(15, left, 0, 0),
-        InstructionError::EmptySecretDigestInput => plain(16),
-        InstructionError::JumpStackIsEmpty => plain(17),
-        InstructionError::AssertionFailed(actual) => carrying(18, 1, actual, 0),
-        InstructionError::VectorAssertionFailed(i, expected, actual) => carrying(
-            19,
-            i,
-            expected,
-            actual,
-        ),
-        InstructionError::InverseOfZero => plain(20),
-        InstructionError::DivisionByZero => plain(21),
-        InstructionError::LogarithmOfZero => plain(22),
-        InstructionError::SpongeNotInitialized => plain(23),
-        InstructionError::OpStackFull => plain(30),
-        InstructionError::JumpStackFull => plain(31),
-        InstructionError::RamFull => plain(32),
-        InstructionError::OutputFull => plain(33),
-        InstructionError::ClockAtEnd => plain(34),
-    }
-}
-
-// 0 where the step is taken.
-pub fn numbered(answer: Answer) -> Answered {
+// A number, 0 where the step is taken, and the three words that go with it.
+pub fn answered(answer: Answer) -> Refusal {
     match answer {
-        Answer::Took => plain(0),
-        Answer::Refused(error) => refused(error),
+        Answer::Took => Refusal {
+            number: 0,
+            word0: 0,
+            word1: 0,
+            word2: 0,
+        },
+        Answer::Refused(error) => numbered(error),
     }
 }
 

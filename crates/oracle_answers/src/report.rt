@@ -1,5 +1,5 @@
 // What is compared, a line for each difference.
-use crate::answer::numbered;
+use crate::answer::answered;
 use crate::answer::same_registers;
 use crate::answer::same_sponge;
 use crate::entry::AFTER;
@@ -52,11 +52,11 @@ pub fn answer_right(e: Entry, words: &[u64; 512], answer: Answer) -> bool {
     let n = e.index;
     let places = e.places;
     let at = places.number;
-    let found = numbered(answer);
+    let found = answered(answer);
     let number = found.number == word(words, at);
-    let first = found.first == word(words, plus(at, 1));
-    let second = found.second == word(words, plus(at, 2));
-    let third = found.third == word(words, plus(at, 3));
+    let first = found.word0 == word(words, plus(at, 1));
+    let second = found.word1 == word(words, plus(at, 2));
+    let third = found.word2 == word(words, plus(at, 3));
     both(
         told(n, b"number", number),
         told(n, b"carried words", both(first, both(second, third))),

@@ -4,36 +4,13 @@ ghost use Rattle.machine.specs.Refusal.{refusalOf};
 ghost use Rattle.runjob.specs.Refusals.{numberIn};
 use inner_step::answer::Answer;
 use machine::refusal::InstructionError;
+use vm::refusals::numbered;
 
 pub fn number(error: InstructionError) -> u64
     ensures { λ r. ⌜ r ≡ refusalOf error .number ⌝ }
 {
-    match error {
-        InstructionError::BadShape => 1,
-        InstructionError::NotAWord => 2,
-        InstructionError::UnknownOpcode => 3,
-        InstructionError::BadArgument => 4,
-        InstructionError::BadState => 5,
-        InstructionError::MachineHalted => 10,
-        InstructionError::InstructionPointerOverflow => 11,
-        InstructionError::OpStackTooShallow => 12,
-        InstructionError::FailedU32Conversion(_) => 13,
-        InstructionError::EmptyPublicInput(_) => 14,
-        InstructionError::EmptySecretInput(_) => 15,
-        InstructionError::EmptySecretDigestInput => 16,
-        InstructionError::JumpStackIsEmpty => 17,
-        InstructionError::AssertionFailed(_) => 18,
-        InstructionError::VectorAssertionFailed(_, _, _) => 19,
-        InstructionError::InverseOfZero => 20,
-        InstructionError::DivisionByZero => 21,
-        InstructionError::LogarithmOfZero => 22,
-        InstructionError::SpongeNotInitialized => 23,
-        InstructionError::OpStackFull => 30,
-        InstructionError::JumpStackFull => 31,
-        InstructionError::RamFull => 32,
-        InstructionError::OutputFull => 33,
-        InstructionError::ClockAtEnd => 34,
-    }
+    let r = numbered(error);
+    r.number
 }
 
 // 0 where nothing was refused.

@@ -1,6 +1,7 @@
 -- What the contracts cite.
 pub mod HelpedView
 pub mod OpenView
+pub mod RefusalView
 pub mod RunView
 pub mod StepView
 pub mod Trace

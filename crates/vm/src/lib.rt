@@ -3,6 +3,7 @@ pub mod answer;
 pub mod faults;
 pub mod helper_variables;
 pub mod open;
+pub mod refusals;
 pub mod run;
 pub mod step;
 pub mod trace;

@@ -1,9 +1,9 @@
--- `exports::report::numbered` meets its contract. Assumes nothing.
+-- `vm::refusals::numbered` meets its contract. Assumes nothing.
 use borrow.Author.Needs.{needs}
 use mathlib.Core.Path.{sym, ap, _∙_}
 use Rattle.machine.specs.Refusal.{refusalOf}
-use Rattle.exports.proofs.report.numbered.Statement.{statement}
-use Rattle.exports.proofs.report.numbered.Tie as tie
+use Rattle.vm.proofs.refusals.numbered.Statement.{statement}
+use Rattle.vm.proofs.refusals.numbered.Tie as tie
 
 enum-told : tie.Need-enum-told
 enum-told c = search needs
