@@ -193,7 +193,7 @@ module _ {m : Machine} {v : Verdict} {e : Arrays} {q : ℕ} {s : Sponge} {cs : L
     pub way-advanced : {b2 : List ℕ} {k : ℕ} → Recorded asked b b2 (written m cs (n .opStack) (x .depth)) k → Advanced t m b (record { answer = a; state = x; bytes = k }) n b2
     way-advanced r = advanced-of (effectOf e) (w .change) cs (w .limits) (w .performs) sound isAsked r v (w .decides) g
 
-next-is : (m : Machine) (j : Bool) (k : ℕ) → pointerAfter m (cond j (to k) onward) ≡ cond j k (m .state .pointer + sizeOf (opcodeOf m))
+pub next-is : (m : Machine) (j : Bool) (k : ℕ) → pointerAfter m (cond j (to k) onward) ≡ cond j k (m .state .pointer + sizeOf (opcodeOf m))
 next-is m true k = refl
 next-is m false k = refl
 

@@ -5,5 +5,6 @@ pub mod DecideLaws
 pub mod LimitsLaws
 pub mod PerformLaws
 pub mod PlaceBLaws
+pub mod QuickLaws
 pub mod RecordsLaws
 pub mod SettleLaws

@@ -72,7 +72,7 @@ module _ (a v : List ℕ) (k n : ℕ) where
 
 -- ---- the parts of the machine
 
-take-least : (n k : ℕ) (l : List ℕ) → length l ≡ k → take (min n k) l ≡ take n l
+pub take-least : (n k : ℕ) (l : List ℕ) → length l ≡ k → take (min n k) l ≡ take n l
 take-least n k l h = go (ltb k n) refl
   where
     go : (t : Bool) → ltb k n ≡ t → take (min n k) l ≡ take n l

@@ -4,4 +4,5 @@ pub mod AnswerView
 pub mod DecideView
 pub mod PerformView
 pub mod PlaceBView
+pub mod QuickView
 pub mod RecordsView

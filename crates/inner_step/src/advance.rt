@@ -22,7 +22,7 @@ use machine::vm::VMState;
 use tip5::sponge::Sponge;
 
 // Where the pointer goes.
-fn next(jumps: bool, target: u64, pointer: u64, opcode: u64) -> u64
+pub fn next(jumps: bool, target: u64, pointer: u64, opcode: u64) -> u64
     requires { ⌜ pointer + 2 < 18446744073709551616 ⌝ }
     ensures { λ r. ⌜ r ≡ cond jumps target (pointer + sizeOf opcode) ⌝ }
 {

@@ -126,7 +126,7 @@ pub fn act_hashing(
 // ---- the same of the machine that stands on a slot
 
 // The last of n words, or 0.
-fn last(s: &[u64], n: usize) -> u64
+pub fn last(s: &[u64], n: usize) -> u64
     requires { ⌜ n ≤ length (now s) ⌝ }
     ensures { λ r. ⌜ r ≡ lastOf (now (s .entry)) n ⌝ }
 {

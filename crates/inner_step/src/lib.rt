@@ -5,5 +5,6 @@ pub mod decide;
 pub mod limits;
 pub mod perform;
 pub mod place_b;
+pub mod quick;
 pub mod records;
 pub mod settle;

@@ -9,7 +9,7 @@ use Rattle.machine.specs.declared.vm.VMState.{VMState}
 use Rattle.machine.specs.declared.refusal.InstructionError.{InstructionError}
 use Rattle.machine.specs.Choice.{cond}
 use Rattle.machine.specs.Refusal.{Refusal, refusalOf, plainly}
-use Rattle.machine.specs.Machine.{Code, Memory, Machine, machine}
+use Rattle.machine.specs.Machine.{Code, Memory, memory, Machine, machine}
 use Rattle.machine.specs.PlaceA.{machineA}
 use Rattle.machine.specs.Decide.{decideOf}
 use Rattle.machine.specs.Apply.{Outcome, took, kept, lost, settled}
@@ -72,6 +72,12 @@ module _ {budget : ℕ} {g : RunGives} {m : Machine} {k : ℕ} (r : Running budg
         let e : budget - k ≡ suc (budget - (k + 1)) = omega arith in
         rw (← steps-more (budget - (k + 1)) m on, ← e) (r .is)
 
+    -- the step is taken
+    pub run-goes-on : {x : Machine} → outcomeBy decideOf m ≡ took x → Running budget g x (k + 1)
+    run-goes-on {x} e =
+        let u = rw e at next in
+        record { few = omega arith; sound = step-sound decideOf facts m x (r .sound) e; is = sym (one-more k (stepsBy decideOf (budget - (k + 1)) x)) ∙ u }
+
     pub run-goes : {a : Answer} {x : Machine} → a ≡ Took → Gives m (outcomeBy decideOf m) a x → Running budget g x (k + 1)
     run-goes {a} {x} t y = go (outcomeBy decideOf m) refl
       where
@@ -80,9 +86,8 @@ module _ {budget : ℕ} {g : RunGives} {m : Machine} {k : ℕ} (r : Running budg
 
         go : (o : Outcome) → outcomeBy decideOf m ≡ o → Running budget g x (k + 1)
         go (took z) e =
-            let u = rw e at next in
             let w : x ≡ z = rw e at (y .left) in
-            rw w (record { few = omega arith; sound = step-sound decideOf facts m z (r .sound) e; is = sym (one-more k (stepsBy decideOf (budget - (k + 1)) z)) ∙ u })
+            rw w (run-goes-on e)
         go (kept z) e = let u = sym did-take ∙ (rw e at (y .answer)) in let v : _≡_ {A = ℕ} 0 1 = cc in absurd (omega arith)
         go (lost z w) e = let u = sym did-take ∙ (rw e at (y .answer)) in let v : _≡_ {A = ℕ} 0 1 = cc in absurd (omega arith)
 
@@ -111,6 +116,11 @@ module _ {budget : ℕ} {g : RunGives} {m : Machine} {k : ℕ} (r : Running budg
               ending = ap refused q ∙ ap (λ (i : RunGives). i .ending) u;
               left = (rw e at (y .left)) ∙ ap (λ (i : RunGives). i .left) u;
             }
+
+-- the op stack as it was
+pub run-kept : {budget : ℕ} {g : RunGives} {s : VMState} {c : Code} {stack after from to a v o : List ℕ} {k : ℕ} → after ≡ stack →
+    Running budget g (machine s c (memory stack from to a v o)) k → Running budget g (machine s c (memory after from to a v o)) k
+run-kept {budget} {g} {s} {c} {stack} {after} {from} {to} {a} {v} {o} {k} e r = subst (λ (x : List ℕ). Running budget g (machine s c (memory x from to a v o)) k) (sym e) r
 
 -- a machine that is halted, and one whose budget is spent
 ends-halted : (n : ℕ) (m : Machine) → m .state .halted ≡ true → stepsBy decideOf n m ≡ ran 0 halted m

@@ -8,6 +8,7 @@ use crate::answer::Ran;
 use crate::faults::fault;
 use inner_step::advance::advance;
 use inner_step::answer::Answer;
+use inner_step::quick::quick;
 use machine::checks::check_machine;
 use machine::vm::VMState;
 
@@ -50,6 +51,25 @@ fn steps(
     while count < budget {
         if now.halted {
             break;
+        }
+        let q = quick(
+            now,
+            opcodes,
+            arguments,
+            public,
+            secret,
+            op_stack,
+            origins,
+            destinations,
+            addresses,
+            values,
+        );
+        if q.done {
+            now.clock = now.clock + 1;
+            now.pointer = q.pointer;
+            now.depth = q.depth;
+            count += 1;
+            continue;
         }
         let r = advance(
             false,
