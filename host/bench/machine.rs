@@ -1,12 +1,13 @@
 //! The library's calls beside the original Rust (`oracle bench`) on the same jobs, in one run: nanoseconds a step and ratios
 //! (below 1: the library is faster). The best turn of each counts. Opening and copying the state are not in the time.
-use host::ffi::Library;
+use host::ffi::{step_registers, Library};
 use host::field::P;
 use host::instructions::named;
 use host::job::{Before, Job, Room, Start};
 use host::lent::{answer, ending, Machine, STEP_BYTES};
 use host::oracle::Oracle;
 use host::random::Random;
+use host::registers::Registers;
 use std::hint::black_box;
 use std::time::{Duration, Instant};
 
@@ -38,10 +39,10 @@ fn report(case: &Case, oracle: &Oracle) {
     assert_eq!(ran[answer::ENDING], ending::DONE, "{}: {ran:?}", case.name);
     let steps = ran[answer::STEPS];
     let states = first_states(&start);
-    let mut best = [f64::MAX; 4];
+    let mut best = [f64::MAX; 5];
     let mut theirs = [f64::MAX; 3];
     for _ in 0..TURNS {
-        let turns = [by_run(&start), by_trace(&start, steps), by_step(&start), by_helpers(&states)];
+        let turns = [by_run(&start), by_trace(&start, steps), by_step(&start), by_record(&start), by_helpers(&states)];
         best.iter_mut().zip(turns).for_each(|(best, turn)| *best = best.min(turn));
         for (name, time) in oracle.bench(&case.job, steps) {
             let place = ["run", "step", "helpers"].iter().position(|known| *known == name).unwrap();
@@ -53,7 +54,8 @@ fn report(case: &Case, oracle: &Oracle) {
         ("run", best[0], theirs[0]),
         ("trace_execution", best[1], theirs[1]),
         ("step", best[2], theirs[1]),
-        ("helper_variables", best[3], theirs[2]),
+        ("step_registers", best[3], theirs[1]),
+        ("helper_variables", best[4], theirs[2]),
     ];
     for (call, ours, theirs) in rows {
         println!("{:<34}{call:<18}{ours:>12.1}{theirs:>10.1}{:>10.2}", case.name, ours / theirs);
@@ -99,6 +101,27 @@ fn by_step(start: &Machine) -> f64 {
         let began = Instant::now();
         while taken % 16 != 0 || began.elapsed() < TURN {
             if machine.step(&Library, &mut buffer)[answer::NUMBER] != 0 {
+                break;
+            }
+            black_box(&buffer);
+            taken += 1;
+        }
+        (began.elapsed(), taken)
+    })
+}
+
+/// The same by the register record.
+fn by_record(start: &Machine) -> f64 {
+    let mut buffer = [0; STEP_BYTES];
+    per_step(|| {
+        let mut machine = start.clone();
+        let mut registers = Registers::of(&machine.registers).expect("registers that fit");
+        let mut taken = 0;
+        let began = Instant::now();
+        while taken % 16 != 0 || began.elapsed() < TURN {
+            let mut answer = [u64::MAX; answer::ALL];
+            let (_, code, memory) = machine.parts();
+            if step_registers(&mut registers, &mut answer, code, memory, &mut buffer) != 0 {
                 break;
             }
             black_box(&buffer);

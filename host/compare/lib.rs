@@ -14,6 +14,7 @@ pub mod oracle;
 pub mod programs;
 pub mod random;
 pub mod records;
+pub mod registers;
 pub mod states;
 pub mod tip5;
 mod tip5_constants;

@@ -5,9 +5,9 @@ mod input;
 mod lengths;
 
 use guard::Arena;
-use host::ffi::Library;
+use host::ffi::{ByRecord, Library};
 use host::instructions::{decode, named};
-use host::lent::register;
+use host::lent::{register, Calls};
 use host::model::Model;
 use host::random::Random;
 use input::{inputs, Export, Input, EXPORTS};
@@ -65,11 +65,11 @@ impl Fuzz {
     }
 }
 
-/// The library twice, with other guards the second time, beside the model.
+/// The library twice beside the model; the second time with other guards, and with step by the register record.
 fn compare(export: Export, input: &Input, [first, second, expected]: &mut [Arena; 3]) -> Result<u64, String> {
     let number = expected.call(export, input, &Model);
-    for arena in [first, second] {
-        let found = arena.call(export, input, &Library);
+    for (arena, library) in [(first, &Library as &dyn Calls), (second, &ByRecord)] {
+        let found = arena.call(export, input, library);
         if found != number {
             return Err(format!("{found} instead of {number}"));
         }

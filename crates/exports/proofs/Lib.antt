@@ -7,3 +7,4 @@ pub mod RegistersLaws
 pub mod ReportLaws
 pub mod RunCallLaws
 pub mod StepCallLaws
+pub mod ThinCallLaws

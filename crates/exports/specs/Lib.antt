@@ -6,3 +6,4 @@ pub mod Registers
 pub mod Report
 pub mod RunCall
 pub mod StepCall
+pub mod ThinCall

@@ -2,6 +2,7 @@
 //
 // triton_open(registers, answer, digest, cells, code, memory)
 // triton_step(registers, answer, code, memory, calls)
+// triton_step_registers(registers, answer, code, memory, calls)
 // triton_run(registers, answer, budget, code, memory)
 // triton_trace_execution(registers, answer, budget, code, memory, calls)
 // triton_helper_variables(registers, helpers, code, memory)
@@ -29,6 +30,13 @@
 //     6 how many bytes of records were written
 // digest, 5 words. helpers, 6 words, zeros where the call is refused.
 //
+// triton_step_registers is triton_step with the registers as a struct that is lent, `Registers` in src/thin.rt. A mirror in Rust is `#[repr(C)]`
+// with the same fields in the same order; it has 208 bytes:
+//     0 clock, 4 bytes
+//     8 pointer, 16 depth, 24 jumps, 32 cells, 40 outputs, 48 publics, 56 secrets, 64 digests, 8 bytes each
+//    72 halted, 73 whether the sponge is set, a byte each, 0 or 1
+//    80 to 207 the sponge's words
+//
 // Each call gives the number too. One of these slices with another length, a clock at or above 2^32 and a mark other than 0 or 1 give 1: then
 // nothing lent is changed, and an answer of seven words says so; one of another length stays. open does not read the registers, only their length.
 pub mod fits;
@@ -38,4 +46,5 @@ pub mod registers;
 pub mod report;
 pub mod run;
 pub mod step;
+pub mod thin;
 pub mod trace;

@@ -1,0 +1,73 @@
+-- step over a register record r: the machine's stepOf, from the state that it stands for.
+use mathlib.Core.List.{List}
+use Prim.Native.Nat.{ℕ}
+use lib.ListN.{length}
+use lib.Dec.{eqb}
+use Rattle.machine.specs.declared.vm.VMState.{VMState}
+use Rattle.machine.specs.Choice.{cond}
+use Rattle.machine.specs.Machine.{Code, Memory, Machine, machine}
+use Rattle.machine.specs.Step.{Stepped, stepOf}
+use Rattle.inner_step.specs.AnswerView.{answeredBy, leftBy}
+use Rattle.exports.specs.declared.report.Report.{Report}
+use Rattle.exports.specs.declared.thin.Registers.{Registers}
+use Rattle.exports.specs.Report.{answerOf, stepReport}
+
+-- ---- the registers and the state
+
+abbrev pub stateIn : Registers → VMState
+stateIn r =
+    record {
+      clock = r .clock;
+      pointer = r .pointer;
+      depth = r .depth;
+      jumps = r .jumps;
+      cells = r .cells;
+      outputs = r .outputs;
+      publics = r .publics;
+      secrets = r .secrets;
+      digests = r .digests;
+      sponge = record { words = r .words; set = r .set };
+      halted = r .halted;
+    }
+
+abbrev pub registersIn : VMState → Registers
+registersIn s =
+    record {
+      clock = s .clock;
+      pointer = s .pointer;
+      depth = s .depth;
+      jumps = s .jumps;
+      cells = s .cells;
+      outputs = s .outputs;
+      publics = s .publics;
+      secrets = s .secrets;
+      digests = s .digests;
+      halted = s .halted;
+      set = s .sponge .set;
+      words = s .sponge .words;
+    }
+
+-- ---- the call
+
+-- the number that it gives, the registers behind it, and its slices
+pub record Thin : Type 0 where
+  pub number : ℕ
+  pub registers : Registers
+  pub answer : List ℕ
+  pub memory : Memory
+  pub buffer : List ℕ
+
+abbrev pub thinly : ℕ → Registers → List ℕ → Memory → List ℕ → Thin
+thinly n r a m b = record { number = n; registers = r; answer = a; memory = m; buffer = b }
+
+-- what a report says, and the machine and the call buffer then
+abbrev pub told : Report → Machine → List ℕ → Thin
+told p m b = thinly (p .number) (registersIn (m .state)) (answerOf p) (m .memory) b
+
+-- from a machine m
+abbrev pub thinGives : Machine → Stepped → Thin
+thinGives m s = told (stepReport (answeredBy (s .outcome)) (s .bytes)) (leftBy m (s .outcome)) (s .buffer)
+
+-- a is the answer and b the call buffer. An answer that has not seven words gives number 1, and nothing is changed
+unfoldable pub thinCall : Registers → List ℕ → Code → Memory → List ℕ → Thin
+thinCall r a c m b = cond (eqb (length a) 7) (thinGives (machine (stateIn r) c m) (stepOf (machine (stateIn r) c m) b)) (thinly 1 r a m b)

@@ -1,0 +1,174 @@
+// step over the register record that the host lends.
+ghost use mathlib.Core.Path.{_≡_};
+ghost use Rattle.machine.specs.Machine.{code, memory};
+ghost use Rattle.exports.specs.ThinCall.{stateIn, registersIn, thinly, thinCall};
+use crate::report::step_report;
+use crate::report::write_answer;
+use machine::vm::VMState;
+use tip5::sponge::Sponge;
+use vm::step::step;
+
+// The registers as C lays them out: 208 bytes.
+#[repr(C)]
+pub struct Registers {
+    pub clock: u32,
+    pub pointer: u64,
+    pub depth: usize,
+    pub jumps: usize,
+    pub cells: usize,
+    pub outputs: usize,
+    pub publics: usize,
+    pub secrets: usize,
+    pub digests: usize,
+    pub halted: bool,
+    // Whether the sponge is set, and its words.
+    pub set: bool,
+    pub words: [u64; 16],
+}
+
+// The number that the call gives, and the registers behind it.
+pub struct Reply {
+    pub number: u64,
+    pub state: Registers,
+}
+
+fn state_in(r: Registers) -> VMState
+    ensures { λ s. ⌜ s ≡ stateIn r ⌝ }
+{
+    let words = r.words;
+    let sponge = Sponge {
+        words: words,
+        set: r.set,
+    };
+    VMState {
+        clock: r.clock,
+        pointer: r.pointer,
+        depth: r.depth,
+        jumps: r.jumps,
+        cells: r.cells,
+        outputs: r.outputs,
+        publics: r.publics,
+        secrets: r.secrets,
+        digests: r.digests,
+        sponge: sponge,
+        halted: r.halted,
+    }
+}
+
+fn registers_in(s: VMState) -> Registers
+    ensures { λ r. ⌜ r ≡ registersIn s ⌝ }
+{
+    let sponge = s.sponge;
+    let words = sponge.words;
+    Registers {
+        clock: s.clock,
+        pointer: s.pointer,
+        depth: s.depth,
+        jumps: s.jumps,
+        cells: s.cells,
+        outputs: s.outputs,
+        publics: s.publics,
+        secrets: s.secrets,
+        digests: s.digests,
+        halted: s.halted,
+        set: sponge.set,
+        words: words,
+    }
+}
+
+// The call with the registers by value.
+pub fn step_reply(
+    registers: Registers,
+    answer: &mut [u64],
+    opcodes: &[u64],
+    arguments: &[u64],
+    public: &[u64],
+    secret: &[u64],
+    digests: &[u64],
+    op_stack: &mut [u64],
+    origins: &mut [u64],
+    destinations: &mut [u64],
+    addresses: &mut [u64],
+    values: &mut [u64],
+    output: &mut [u64],
+    calls: &mut [u8],
+) -> Reply
+    ensures { λ r. ⌜ thinly (r .number) (r .state) (now (answer .exit)) (memory (now («op_stack» .exit)) (now (origins .exit)) (now (destinations .exit)) (now (addresses .exit)) (now (values .exit)) (now (output .exit))) (now (calls .exit))
+        ≡ thinCall registers (now (answer .entry)) (code (now (opcodes .entry)) (now (arguments .entry)) (now (public .entry)) (now (secret .entry)) (now (digests .entry)))
+        (memory (now («op_stack» .entry)) (now (origins .entry)) (now (destinations .entry)) (now (addresses .entry)) (now (values .entry)) (now (output .entry))) (now (calls .entry)) ⌝ }
+{
+    if answer.len() == 7 {
+        let state = state_in(registers);
+        let r = step(
+            state,
+            opcodes,
+            arguments,
+            public,
+            secret,
+            digests,
+            op_stack,
+            origins,
+            destinations,
+            addresses,
+            values,
+            output,
+            calls,
+        );
+        let answered = r.answer;
+        let report = step_report(answered, r.bytes);
+        write_answer(answer, report);
+        let left = registers_in(r.state);
+        Reply {
+            number: report.number,
+            state: left,
+        }
+    } else {
+        Reply {
+            number: 1,
+            state: registers,
+        }
+    }
+}
+
+// As triton_step, but that the registers are a struct, so that all they can hold fits. It has one call and no test, since its proof follows
+// each of its steps by hand.
+#[no_mangle]
+pub extern "C" fn triton_step_registers(
+    registers: &mut Registers,
+    answer: &mut [u64],
+    opcodes: &[u64],
+    arguments: &[u64],
+    public: &[u64],
+    secret: &[u64],
+    digests: &[u64],
+    op_stack: &mut [u64],
+    origins: &mut [u64],
+    destinations: &mut [u64],
+    addresses: &mut [u64],
+    values: &mut [u64],
+    output: &mut [u64],
+    calls: &mut [u8],
+) -> u64
+    ensures { λ r. ⌜ thinly r (now (registers .exit)) (now (answer .exit)) (memory (now («op_stack» .exit)) (now (origins .exit)) (now (destinations .exit)) (now (addresses .exit)) (now (values .exit)) (now (output .exit))) (now (calls .exit))
+        ≡ thinCall (now (registers .entry)) (now (answer .entry)) (code (now (opcodes .entry)) (now (arguments .entry)) (now (public .entry)) (now (secret .entry)) (now (digests .entry)))
+        (memory (now («op_stack» .entry)) (now (origins .entry)) (now (destinations .entry)) (now (addresses .entry)) (now (values .entry)) (now (output .entry))) (now (calls .entry)) ⌝ }
+{
+    let a = step_reply(
+        *registers,
+        answer,
+        opcodes,
+        arguments,
+        public,
+        secret,
+        digests,
+        op_stack,
+        origins,
+        destinations,
+        addresses,
+        values,
+        output,
+        calls,
+    );
+    *registers = a.state;
+    a.number
+}
