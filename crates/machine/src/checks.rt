@@ -43,7 +43,7 @@ pub fn least(a: usize, b: usize) -> usize
 }
 
 // 1 where a slice is too long.
-fn longer(len: usize, rest: u64) -> u64
+pub fn longer(len: usize, rest: u64) -> u64
     ensures { λ r. ⌜ r ≡ firstOf (aboveOf len longest 1) rest ⌝ }
 {
     if 16777216 < len { 1 } else { rest }
@@ -82,7 +82,7 @@ fn code_lengths(
 }
 
 // RAM: a value for each address.
-fn cell_lengths(addresses: &[u64], values: &[u64]) -> u64
+pub fn cell_lengths(addresses: &[u64], values: &[u64]) -> u64
     ensures { λ r. ⌜ r ≡ cells1 (cellsOf 0 (now (addresses .entry)) (now (values .entry))) ⌝ }
 {
     let a = addresses.len();
@@ -156,7 +156,7 @@ fn code_words(arguments: &[u64], public: &[u64], secret: &[u64], digests: &[u64]
 }
 
 // RAM cells below the count.
-fn cell_words(addresses: &[u64], values: &[u64], count: usize) -> u64
+pub fn cell_words(addresses: &[u64], values: &[u64], count: usize) -> u64
     ensures { λ r. ⌜ r ≡ cells2 (cellsOf count (now (addresses .entry)) (now (values .entry))) ⌝ }
 {
     first(used_words(addresses, count), used_words(values, count))
@@ -216,7 +216,7 @@ fn slot_faults(opcodes: &[u64], arguments: &[u64]) -> u64
 }
 
 // 5 where a word at place n or behind it is not 0.
-fn unused_words(s: &[u64], n: usize) -> u64
+pub fn unused_words(s: &[u64], n: usize) -> u64
     ensures { λ r. ⌜ r ≡ unused5 (now (s .entry)) n ⌝ }
 {
     let mut i = n;
@@ -257,7 +257,7 @@ fn twice(addresses: &[u64], count: usize) -> u64
 }
 
 // The count is tried first, so that no address beyond the slice is looked for.
-fn used_cells(addresses: &[u64], count: usize) -> u64
+pub fn used_cells(addresses: &[u64], count: usize) -> u64
     ensures { λ r. ⌜ r ≡ cells5 (cellsOf count (now (addresses .entry)) Nil) ⌝ }
 {
     if addresses.len() < count {

@@ -60,17 +60,17 @@ unfolding lazyFault ramFault
 lazy-fault b c done a v zero s = rw (s .held-is a)
 lazy-fault b c done a v (suc d) s = rw (stored-count (b .cells) a v, s .has-is a, s .room)
 
-same-stack : (c : Cells) (b : Built) (q d v : ℕ) → stackFault (strip c b) q d v ≡ stackFault b q d v
+pub same-stack : (c : Cells) (b : Built) (q d v : ℕ) → stackFault (strip c b) q d v ≡ stackFault b q d v
 unfolding stackFault
 same-stack c b q zero v = refl
 same-stack c b q (suc d) v = refl
 
-same-turn : (c : Cells) (b : Built) (t d v : ℕ) → stackTurn (strip c b) t d v ≡ strip c (stackTurn b t d v)
+pub same-turn : (c : Cells) (b : Built) (t d v : ℕ) → stackTurn (strip c b) t d v ≡ strip c (stackTurn b t d v)
 unfolding stackTurn
 same-turn c b t zero v = refl
 same-turn c b t (suc d) v = refl
 
-ram-turn : (c : Cells) (b : Built) (t a v d : ℕ) → built t (b .depth) (b .words) c ≡ strip c (ramTurn b t a v d)
+pub ram-turn : (c : Cells) (b : Built) (t a v d : ℕ) → built t (b .depth) (b .words) c ≡ strip c (ramTurn b t a v d)
 unfolding ramTurn
 ram-turn c b t a v zero = refl
 ram-turn c b t a v (suc d) = refl

@@ -3,3 +3,12 @@ pub mod Replay
 pub mod LastWrite
 pub mod Job
 pub mod Demand3
+pub mod RecordView
+pub mod Walk
+pub mod Scan
+pub mod ScanView
+pub mod Group
+pub mod GroupView
+pub mod Decided
+pub mod WriteView
+pub mod ReplayView

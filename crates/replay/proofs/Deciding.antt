@@ -1,0 +1,185 @@
+-- What two sweeps say of the records, from which the call decides; and what the call then gives. Assumes nothing.
+use mathlib.Core.Path.{_≡_, refl, sym, ap, _∙_}
+use mathlib.Core.Bool.{Bool, true, false}
+use mathlib.Core.List.{List, [], _∷_, _++_, append-assoc, append-nil}
+use Prim.Native.Nat.{ℕ, zero, suc, _+_, _-_, _≤_, _<_}
+use native.Mathlib.Omega.{arith}
+use borrow.Author.Tests.{eq-eqb, ne-eqb}
+use lib.ListN.{length, drop, replicate}
+use lib.Dec.{eqb}
+use Rattle.machine.specs.Words.{p}
+use Rattle.machine.specs.Choice.{cond}
+use Rattle.machine.specs.Ram.{Cells, cells}
+use Rattle.machine.specs.Records.{Record, other, stack, ram}
+use Rattle.replay.specs.declared.group.Sweep.{Sweep}
+use Rattle.replay.specs.declared.scan.Scan.{Scan}
+use Rattle.replay.specs.declared.replay.Answer.{Answer}
+use Rattle.replay.specs.Replay.{Built, built, Went, bad, fine, Replayed, gives, refuses, finished, replayA, replayBytes, replayOf}
+use Rattle.replay.specs.LastWrite.{wroteAll}
+use Rattle.replay.specs.Walk.{Walk, Walked}
+use Rattle.replay.specs.Group.{Right, RightAt, WrongAt, Stop, at-end, at-wrong, Came, cellsIn}
+use Rattle.replay.specs.Group as G
+use Rattle.replay.specs.GroupView.{Opening, Swept, Sweeps}
+use Rattle.replay.specs.Scan.{Scanned, Fine, Fines, of-other, of-stack, of-ram}
+use Rattle.replay.specs.Scan as S
+use Rattle.replay.specs.WriteView.{Fitting, Written}
+use Rattle.replay.specs.Decided.{Decided, passes, at-read, at-write, Decides}
+use Rattle.replay.specs.ReplayView.{replayedBy}
+use Rattle.replay.proofs.Verdicts.{All}
+use Rattle.replay.proofs.Verdicts as W
+use Rattle.replay.proofs.Bytes.{replayFrom}
+use Rattle.replay.proofs.Walks.{walk-same}
+use Rattle.replay.proofs.WalkLaws.{walk-place}
+use Rattle.replay.proofs.GroupLaws.{apart}
+use Rattle.replay.proofs.PlaceALaws.{accepted}
+use Rattle.replay.proofs.Joined.{Worded, worded-other, worded-stack, worded-ram}
+use Rattle.replay.proofs.Decisions.{decided-well, decided-fits, decided-bad}
+
+-- ---- two sweeps
+
+-- a row of right records has no wrong one
+not-both : {lo hi : ℕ} {c : Cells} {done : List Record} {r : Record} → RightAt lo hi c done r → WrongAt lo hi c done r → ⊥
+not-both (G.of-outside e) (WrongAt.of-read f n) = apart (sym f ∙ e)
+not-both (RightAt.of-read e) (WrongAt.of-read f n) = n e
+
+right-at : {lo hi : ℕ} {c : Cells} (done xs : List Record) (r : Record) (rs : List Record) → Right lo hi c done (xs ++ r ∷ rs) → RightAt lo hi c (done ++ xs) r
+right-at done [] r rs (G.more h k) = rw (append-nil done) h
+right-at done (x ∷ xs) r rs (G.more h k) = rw (← append-assoc done (x ∷ []) xs) (right-at (done ++ (x ∷ [])) xs r rs k)
+
+-- right records, and a wrong read behind them
+pub record Short (log : List ℕ) (c : Cells) (rs : List Record) (end : ℕ) : Type 0 where
+  pub done : List Record
+  pub one : Record
+  pub rest : List Record
+  pub walk : Walk log 0 end done
+  pub joined : rs ≡ done ++ one ∷ rest
+  pub right : Right 0 p c [] done
+  pub wrong : WrongAt 0 p c done one
+
+module _ {log : List ℕ} {to : ℕ} {c : Cells} {rs : List Record} {r : Sweep} (long : to ≤ length log) (walk : Walk log 0 to rs) (sweep : Sweeps log to c r) where
+  -- it came to its end
+  pub whole : r .end ≡ to → Right 0 p c [] rs × (r .cells ≡ cellsIn 0 p c [] rs)
+  whole e =
+      let s = sweep .swept rs walk in
+      let d : rs ≡ s .done = walk-same walk (rw (← e) (s .walk)) in
+      (rw d (s .came .right), s .takes e)
+
+  -- it met a wrong read
+  pub short : (r .end ≡ to → ⊥) → Short log c rs (r .end)
+  short n = let s = sweep .swept rs walk in go (s .done) (s .walk) (s .came .rest) (s .came .joined) (s .came .right) (s .came .stop)
+    where
+      go : (done : List Record) → Walk log 0 (r .end) done → (rest : List Record) → rs ≡ done ++ rest → Right 0 p c [] done → Stop 0 p c done rest → Short log c rs (r .end)
+      go done w [] j h at-end =
+          let e : rs ≡ done = j ∙ append-nil done in
+          absurd (n (walk-place (omega (arith, sweep .inside)) long w (rw (← e) walk)))
+      go done w (x ∷ xs) j h (at-wrong i) = record { done = done; one = x; rest = xs; walk = w; joined = j; right = h; wrong = i }
+
+  -- right records have no wrong read, so it comes to its end
+  pub again : Right 0 p c [] rs → r .cells ≡ cellsIn 0 p c [] rs
+  again h = let s = sweep .swept rs walk in go (s .done) (s .walk) (s .came .rest) (s .came .joined) (s .came .stop) (s .takes)
+    where
+      go : (done : List Record) → Walk log 0 (r .end) done → (rest : List Record) → rs ≡ done ++ rest → Stop 0 p c done rest → (r .end ≡ to → r .cells ≡ cellsIn 0 p c [] rs) → r .cells ≡ cellsIn 0 p c [] rs
+      go done w [] j at-end t =
+          let e : rs ≡ done = j ∙ append-nil done in
+          t (walk-place (omega (arith, sweep .inside)) long w (rw (← e) walk))
+      go done w (x ∷ xs) j (at-wrong i) t = absurd (not-both (right-at [] done x xs (rw j at h)) i)
+
+-- the records before its end
+pub walked-again : {log : List ℕ} {to : ℕ} {c : Cells} {r : Sweep} → Walked log to → Sweeps log to c r → Walked log (r .end)
+walked-again w h =
+    let s = h .swept (w .records) (w .walk) in
+    record { records = s .done; walk = s .walk; ends = omega (arith, h .inside, w .ends) }
+
+-- ---- the decision
+
+module _ {log : List ℕ} {to number room : ℕ} {c : Cells} {r : Sweep} (long : to ≤ length log) (sweep : Sweeps log to c r) (used : c .count ≤ length (c .addresses)) (left : room ≡ length (c .addresses) - c .count) where
+  pub decide-full : r .end ≡ to → room < r .cells → Decides log to number c 44
+  decide-full e h =
+      record {
+        decided =
+            λ rs w.
+            let k = whole long w sweep e in
+            at-write rs [] (sym (append-nil rs)) (k .0) (omega (arith, k .1));
+      }
+
+  pub decide-all : r .end ≡ to → r .cells ≤ room → Decides log to number c number
+  decide-all e h =
+      record {
+        decided =
+            λ rs w.
+            let k = whole long w sweep e in
+            passes (k .0) (omega (arith, k .1));
+      }
+
+  module _ {q : Sweep} (second : Sweeps log (r .end) c q) (n : r .end ≡ to → ⊥) where
+    pub decide-room : room < q .cells → Decides log to number c 44
+    decide-room h =
+        record {
+          decided =
+              λ rs w.
+              let k = short long w sweep n in
+              let i = again (omega (arith, sweep .inside)) (k .walk) second (k .right) in
+              at-write (k .done) (k .one ∷ k .rest) (k .joined) (k .right) (omega arith);
+        }
+
+    pub decide-read : q .cells ≤ room → Decides log to number c 43
+    decide-read h =
+        record {
+          decided =
+              λ rs w.
+              let k = short long w sweep n in
+              let i = again (omega (arith, sweep .inside)) (k .walk) second (k .right) in
+              at-read (k .done) (k .rest) (k .one) (k .joined) (k .right) (k .wrong) (omega arith);
+        }
+
+-- ---- the call
+
+words-of : {rs : List Record} → Fines rs → All Worded rs
+words-of S.Fines.none = W.none
+words-of (S.Fines.more f h) = W.more (one f) (words-of h)
+  where
+    one : {r : Record} → Fine r → Worded r
+    one of-other = worded-other
+    one of-stack = worded-stack
+    one (of-ram a v d) = worded-ram a
+
+abbrev answer : ℕ → ℕ → ℕ → Answer
+answer n d k = record { number = n; depth = d; cells = k }
+
+-- place A refuses it
+pub call-refused : (log s : List ℕ) (c : Cells) (j n : ℕ) (r : Answer) → n ≡ replayA log c s → (n ≡ 0 → ⊥) → (r .number ≡ n) × (r .depth ≡ 0) × (r .cells ≡ 0) → replayedBy r s c ≡ replayOf log c s j
+unfolding replayOf
+call-refused log s c j n r e h (a, d, k) =
+    let z : eqb (replayA log c s) 0 ≡ false = ne-eqb (replayA log c s) 0 (λ (q : replayA log c s ≡ 0). h (e ∙ q)) in
+    rw (z, a, d, k, e)
+
+-- and place A accepts it
+pub opens : (log s : List ℕ) (c : Cells) (fault : ℕ) → fault ≡ replayA log c s → fault ≡ 0 → Opening c
+opens log s c fault e z = let k = accepted log c s (sym e ∙ z) .sound in record { used = k .used; paired = k .pair; once = k .once }
+
+pub walked : {log s after : List ℕ} {j : ℕ} {r : Scan} → Scanned log s j after r → Walked log (r .end)
+walked h = record { records = h .records; walk = h .walk; ends = h .inside }
+
+module _ (log s after : List ℕ) (c : Cells) (j fault n : ℕ) (scan : Scan) (fault-is : fault ≡ replayA log c s) (nothing : fault ≡ 0)
+    (scanned : Scanned log s j after scan) (decides : Decides log (scan .end) (scan .number) c n) where
+  open-cells : Opening c
+  open-cells = opens log s c fault fault-is nothing
+
+  whole-answer : (w : Went) → replayFrom j (built 0 16 s c) log ≡ w → replayOf log c s j ≡ finished w s c
+  unfolding replayOf replayFrom
+  whole-answer w e = let z : replayA log c s ≡ 0 = sym fault-is ∙ nothing in rw (z, e)
+
+  -- it is refused, and the stack slice is cleared
+  pub call-wrong : (n ≡ 0 → ⊥) → (zeros : List ℕ) (r : Answer) → length after ≡ length s → zeros ≡ replicate (length after) 0 →
+      (r .number ≡ n) × (r .depth ≡ 0) × (r .cells ≡ 0) → replayedBy r zeros c ≡ replayOf log c s j
+  call-wrong h zeros r l z (a, d, k) =
+      let o : zeros ≡ s = z ∙ rw l (sym (accepted log c s (sym fault-is ∙ nothing) .zeros)) in
+      rw (whole-answer (bad n) (decided-bad (scanned .walk) (scanned .rests c) (scanned .ends c) (words-of (scanned .fine)) (open-cells .paired) (open-cells .used) (decides .decided (scanned .records) (scanned .walk)) h), o, a, d, k)
+
+  pub call-fits : n ≡ 0 → Fitting log (scan .end) c
+  call-fits h = decided-fits (scanned .walk) (scanned .rests c) (scanned .ends c) (words-of (scanned .fine)) (open-cells .paired) (open-cells .used) (scanned .inside) (decides .decided (scanned .records) (scanned .walk)) h
+
+  -- it is rebuilt
+  pub call-right : n ≡ 0 → (k : ℕ) (a v : List ℕ) → Written log (scan .end) c (cells k a v) → replayedBy (answer 0 (scan .depth) k) after (cells k a v) ≡ replayOf log c s j
+  call-right h k a v w =
+      rw (whole-answer _ (decided-well (scanned .walk) (scanned .rests c) (scanned .ends c) (words-of (scanned .fine)) (open-cells .paired) (open-cells .used) (decides .decided (scanned .records) (scanned .walk)) h), ← w .is (scanned .records) (scanned .walk))

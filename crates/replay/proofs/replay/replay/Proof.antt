@@ -1,0 +1,86 @@
+-- `replay::replay::replay` meets its contract. Assumes nothing.
+use borrow.Author.Needs.{needs}
+use Rattle.replay.proofs.Deciding.{call-refused, opens, walked, call-wrong, call-fits, call-right}
+use Rattle.replay.proofs.replay.replay.Statement.{statement}
+use Rattle.replay.proofs.replay.replay.Tie as tie
+
+check-replay-requires : tie.Need-check-replay-requires
+check-replay-requires c κs = search needs
+
+refused-requires : tie.Need-refused-requires
+refused-requires c κs = search needs
+
+same-length : tie.Need-same-length
+same-length c = search needs
+
+same-length-2 : tie.Need-same-length-2
+same-length-2 c = search needs
+
+same-length-3 : tie.Need-same-length-3
+same-length-3 c = search needs
+
+returns : tie.Need-returns
+returns c = call-refused _ _ _ _ _ _ (c .before .before .check-replay .ensures) (c .before .if1 .taken) (c .refused .ensures)
+
+scan-log-requires : tie.Need-scan-log-requires
+scan-log-requires c κs = search needs
+
+decide-requires : tie.Need-decide-requires
+decide-requires c κs = (walked (c .before .before .before .before .scan-log .ensures), opens _ _ _ _ (c .before .before .before .before .before .before .before .check-replay .ensures) (c .before .before .before .before .before .before .if1 .left))
+
+clear-requires : tie.Need-clear-requires
+clear-requires c κs = search needs
+
+refused-requires-2 : tie.Need-refused-requires-2
+refused-requires-2 c κs = search needs
+
+same-length-4 : tie.Need-same-length-4
+same-length-4 c = search needs
+
+same-length-5 : tie.Need-same-length-5
+same-length-5 c = search needs
+
+same-length-6 : tie.Need-same-length-6
+same-length-6 c = search needs
+
+returns-2 : tie.Need-returns-2
+returns-2 c = call-wrong _ _ _ _ _ _ _ _ (c .before .before .before .before .before .before .before .before .before .before .before .before .before .before .check-replay .ensures) (c .before .before .before .before .before .before .before .before .before .before .before .before .before .if1 .left) (c .before .before .before .before .before .before .before .before .before .before .before .scan-log .ensures) (c .before .before .before .before .before .before .decide .ensures) (c .before .before .before .before .before .if2 .taken) _ _ (c .before .before .before .before .before .before .before .before .before .before .words .given) (c .before .before .before .clear .ensures) (c .refused2 .ensures)
+
+write-back-requires : tie.Need-write-back-requires
+write-back-requires c κs = call-fits _ _ _ _ _ _ _ _ (c .before .before .before .before .before .before .before .before .before .before .before .check-replay .ensures) (c .before .before .before .before .before .before .before .before .before .before .if1 .left) (c .before .before .before .before .before .before .before .before .scan-log .ensures) (c .before .before .before .decide .ensures) (c .before .before .if2 .left)
+
+same-length-7 : tie.Need-same-length-7
+same-length-7 c = search needs
+
+same-length-8 : tie.Need-same-length-8
+same-length-8 c = search needs
+
+same-length-9 : tie.Need-same-length-9
+same-length-9 c = search needs
+
+returns-3 : tie.Need-returns-3
+returns-3 c = call-right _ _ _ _ _ _ _ _ (c .before .before .before .before .before .before .before .before .before .before .before .before .before .before .before .before .check-replay .ensures) (c .before .before .before .before .before .before .before .before .before .before .before .before .before .before .before .if1 .left) (c .before .before .before .before .before .before .before .before .before .before .before .before .before .scan-log .ensures) (c .before .before .before .before .before .before .before .before .decide .ensures) (c .before .before .before .before .before .before .before .if2 .left) _ _ _ (c .before .before .before .before .write-back .ensures)
+
+pub replay-spec : {M : Type 1} → statement M
+replay-spec =
+    tie.close
+    (tie.spec
+    check-replay-requires
+    refused-requires
+    same-length
+    same-length-2
+    same-length-3
+    returns
+    scan-log-requires
+    decide-requires
+    clear-requires
+    refused-requires-2
+    same-length-4
+    same-length-5
+    same-length-6
+    returns-2
+    write-back-requires
+    same-length-7
+    same-length-8
+    same-length-9
+    returns-3)
