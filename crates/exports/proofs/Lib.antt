@@ -4,6 +4,7 @@ pub mod HelperCallLaws
 pub mod OpenCallLaws
 pub mod RefusedCalls
 pub mod RegistersLaws
+pub mod ReplayCallLaws
 pub mod ReportLaws
 pub mod RunCallLaws
 pub mod StepCallLaws

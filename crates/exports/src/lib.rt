@@ -6,6 +6,7 @@
 // triton_run(registers, answer, budget, code, memory)
 // triton_trace_execution(registers, answer, budget, code, memory, calls)
 // triton_helper_variables(registers, helpers, code, memory)
+// triton_replay(rebuilt, log, clock, cells, addresses, values, words)
 //
 // code is opcodes, arguments, public, secret, digests, and memory is op_stack, origins, destinations, addresses, values, output: a slice each.
 //
@@ -29,6 +30,8 @@
 //     5 how many steps succeeded: of step 1 or 0, of open 0
 //     6 how many bytes of records were written
 // digest, 5 words. helpers, 6 words, zeros where the call is refused.
+// rebuilt, 3 words (specs/ReplayCall.antt): the number, the depth and how many cells are used, the last two 0 where the call is refused. log is
+// bytes; words is the stack slice, all 0 before the call.
 //
 // triton_step_registers is triton_step with the registers as a struct that is lent, `Registers` in src/thin.rt. A mirror in Rust is `#[repr(C)]`
 // with the same fields in the same order; it has 208 bytes:
@@ -43,6 +46,7 @@ pub mod fits;
 pub mod helper_variables;
 pub mod open;
 pub mod registers;
+pub mod replay_call;
 pub mod report;
 pub mod run;
 pub mod step;
