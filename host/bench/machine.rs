@@ -1,13 +1,12 @@
 //! The library's calls beside the original Rust (`oracle bench`) on the same jobs, in one run: nanoseconds a step and ratios
 //! (below 1: the library is faster). The best turn of each counts. Opening and copying the state are not in the time.
-use host::ffi::{step_registers, Library};
 use host::field::P;
 use host::instructions::named;
 use host::job::{Before, Job, Room, Start};
-use host::lent::{answer, ending, Machine, STEP_BYTES};
+use host::lent::{answer, ending, Library, Machine, STEP_BYTES};
 use host::oracle::Oracle;
 use host::random::Random;
-use host::registers::Registers;
+use kixombu::exports::{step_registers, Registers};
 use std::hint::black_box;
 use std::time::{Duration, Instant};
 
@@ -92,43 +91,45 @@ fn by_trace(start: &Machine, steps: u64) -> f64 {
     })
 }
 
-/// Steps from the start on, up to the end or as long as a turn.
 fn by_step(start: &Machine) -> f64 {
     let mut buffer = [0; STEP_BYTES];
     per_step(|| {
         let mut machine = start.clone();
-        let mut taken = 0;
-        let began = Instant::now();
-        while taken % 16 != 0 || began.elapsed() < TURN {
-            if machine.step(&Library, &mut buffer)[answer::NUMBER] != 0 {
-                break;
-            }
+        in_a_turn(|| {
+            let answer = machine.step(&Library, &mut buffer);
             black_box(&buffer);
-            taken += 1;
-        }
-        (began.elapsed(), taken)
+            answer[answer::NUMBER]
+        })
     })
 }
 
-/// The same by the register record.
+/// The same over the register record, which is made once.
 fn by_record(start: &Machine) -> f64 {
     let mut buffer = [0; STEP_BYTES];
     per_step(|| {
         let mut machine = start.clone();
-        let mut registers = Registers::of(&machine.registers).expect("registers that fit");
-        let mut taken = 0;
-        let began = Instant::now();
-        while taken % 16 != 0 || began.elapsed() < TURN {
+        let mut registers = Registers::from_words(&machine.registers).expect("registers that fit");
+        in_a_turn(|| {
             let mut answer = [u64::MAX; answer::ALL];
             let (_, code, memory) = machine.parts();
-            if step_registers(&mut registers, &mut answer, code, memory, &mut buffer) != 0 {
-                break;
-            }
+            let number = step_registers(&mut registers, &mut answer, code, memory, &mut buffer);
             black_box(&buffer);
-            taken += 1;
-        }
-        (began.elapsed(), taken)
+            number
+        })
     })
+}
+
+/// Single steps up to the end or as long as a turn: `step` takes one, and gives the number.
+fn in_a_turn(mut step: impl FnMut() -> u64) -> (Duration, u64) {
+    let mut taken = 0;
+    let began = Instant::now();
+    while taken % 16 != 0 || began.elapsed() < TURN {
+        if step() != 0 {
+            break;
+        }
+        taken += 1;
+    }
+    (began.elapsed(), taken)
 }
 
 fn by_helpers(states: &[Machine]) -> f64 {

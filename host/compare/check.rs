@@ -1,11 +1,11 @@
 //! One job three ways: what the oracle reports, the model and the library.
-use crate::ffi::Library;
 use crate::job::{Before, Job, Room};
+use crate::lent::Library;
 use crate::lent::{answer, ending, register, Answer, Calls, Machine, STEP_BYTES};
 use crate::model::Model;
 use crate::oracle::{End, Refused, Report, State};
 use crate::random::Random;
-use crate::records::{bytes_of, Record};
+use kixombu::{bytes_of, Record};
 use std::fmt::Debug;
 
 /// What was compared, and both sides.

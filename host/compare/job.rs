@@ -1,6 +1,8 @@
 //! A job, its file for the oracle, and the machine that the library is handed for it.
 use crate::lent::{register, Machine};
 use crate::random::Random;
+use kixombu::frame::{put, words};
+use kixombu::{JobFile, Opening, Slot};
 
 #[derive(Clone, Debug, Default)]
 pub struct Job {
@@ -31,16 +33,7 @@ pub struct Start {
 impl Job {
     /// Document 01's records of kinds 11 to 17, and the oracle's of kinds 32 to 35.
     pub fn file(&self) -> Vec<u8> {
-        let mut file = vec![];
-        put(&mut file, 11, &[&words(&self.digest)]);
-        for &(opcode, argument) in &self.slots {
-            put(&mut file, 12, &[&(opcode as u16).to_le_bytes(), &argument.to_le_bytes()]);
-        }
-        self.public.iter().for_each(|word| put(&mut file, 13, &[&word.to_le_bytes()]));
-        self.secret.iter().for_each(|word| put(&mut file, 14, &[&word.to_le_bytes()]));
-        self.digests.iter().for_each(|digest| put(&mut file, 15, &[&words(digest)]));
-        self.ram.iter().for_each(|&(address, value)| put(&mut file, 16, &[&words(&[address, value])]));
-        put(&mut file, 17, &[&self.budget.to_le_bytes()]);
+        let mut file = JobFile { opening: self.opening(), budget: self.budget }.write();
         if let Some(start) = &self.start {
             start.stack.iter().for_each(|word| put(&mut file, 32, &[&word.to_le_bytes()]));
             start.jumps.iter().for_each(|&(origin, destination)| put(&mut file, 33, &[&words(&[origin, destination])]));
@@ -49,17 +42,6 @@ impl Job {
         }
         file
     }
-}
-
-fn put(file: &mut Vec<u8>, kind: u16, fields: &[&[u8]]) {
-    let length: usize = fields.iter().map(|field| field.len()).sum();
-    file.extend((length as u16 + 2).to_le_bytes());
-    file.extend(kind.to_le_bytes());
-    fields.iter().for_each(|field| file.extend(*field));
-}
-
-fn words(words: &[u64]) -> Vec<u8> {
-    words.iter().flat_map(|word| word.to_le_bytes()).collect()
 }
 
 /// How many words or entries are lent.
@@ -97,6 +79,18 @@ impl Before {
 }
 
 impl Job {
+    /// For the safe calls.
+    pub fn opening(&self) -> Opening {
+        Opening {
+            digest: self.digest,
+            program: self.slots.iter().map(|&(opcode, argument)| Slot { opcode, argument }).collect(),
+            public_input: self.public.clone(),
+            secret_input: self.secret.clone(),
+            secret_digests: self.digests.clone(),
+            ram: self.ram.clone(),
+        }
+    }
+
     /// The machine that open is handed: whatever in the registers, the stacks, unused cells and output.
     pub fn unopened(&self, room: Room, random: &mut Random) -> Machine {
         let mut any = |n: usize| -> Vec<u64> { (0..n).map(|_| random.next()).collect() };

@@ -1,69 +1,10 @@
 //! What a call is handed, in the shape of the library's C interface.
-
-/// Places in the register slice.
-pub mod register {
-    pub const CLOCK: usize = 0;
-    pub const POINTER: usize = 1;
-    pub const DEPTH: usize = 2;
-    pub const JUMPS: usize = 3;
-    pub const CELLS: usize = 4;
-    pub const OUTPUTS: usize = 5;
-    pub const PUBLICS: usize = 6;
-    pub const SECRETS: usize = 7;
-    pub const DIGESTS: usize = 8;
-    pub const HALTED: usize = 9;
-    pub const SPONGE_SET: usize = 10;
-    pub const SPONGE: usize = 11;
-    pub const ALL: usize = 27;
-}
-
-/// Places in the answer slice.
-pub mod answer {
-    pub const ENDING: usize = 0;
-    pub const NUMBER: usize = 1;
-    pub const WORDS: usize = 2;
-    pub const STEPS: usize = 5;
-    pub const BYTES: usize = 6;
-    pub const ALL: usize = 7;
-}
-
-/// The ending in an answer: opened, taken or halted; spent; log full; refused.
-pub mod ending {
-    pub const DONE: u64 = 0;
-    pub const SPENT: u64 = 1;
-    pub const FULL: u64 = 2;
-    pub const REFUSED: u64 = 3;
-}
-
-/// No lent slice has more elements.
-pub const LONGEST: usize = 16_777_216;
-
-/// The most bytes that one step records.
-pub const STEP_BYTES: usize = 1024;
+use kixombu::exports;
+pub use kixombu::exports::{answer, ending, register, Code, Memory, LONGEST, STEP_BYTES};
 
 pub type Answer = [u64; answer::ALL];
 
-/// The program and the inputs.
-#[derive(Clone, Copy)]
-pub struct Code<'a> {
-    pub opcodes: &'a [u64],
-    pub arguments: &'a [u64],
-    pub public: &'a [u64],
-    pub secret: &'a [u64],
-    pub digests: &'a [u64],
-}
-
-/// What is lent to be changed.
-pub struct Memory<'a> {
-    pub op_stack: &'a mut [u64],
-    pub origins: &'a mut [u64],
-    pub destinations: &'a mut [u64],
-    pub addresses: &'a mut [u64],
-    pub values: &'a mut [u64],
-    pub output: &'a mut [u64],
-}
-
-/// The calls: the library's (`ffi::Library`) and the model's (`model::Model`). Each gives the number, 0 where not refused.
+/// The calls: the library's and the model's (`model::Model`). Each gives the number, 0 where not refused.
 pub trait Calls {
     fn open(&self, registers: &mut [u64], answer: &mut [u64], digest: &[u64], cells: u64, code: Code, memory: Memory) -> u64;
     fn step(&self, registers: &mut [u64], answer: &mut [u64], code: Code, memory: Memory, calls: &mut [u8]) -> u64;
@@ -78,6 +19,39 @@ pub trait Calls {
         log: &mut [u8],
     ) -> u64;
     fn helper_variables(&self, registers: &[u64], helpers: &mut [u64], code: Code, memory: Memory) -> u64;
+}
+
+/// The proved library.
+pub struct Library;
+
+impl Calls for Library {
+    fn open(&self, registers: &mut [u64], answer: &mut [u64], digest: &[u64], cells: u64, code: Code, memory: Memory) -> u64 {
+        exports::open(registers, answer, digest, cells, code, memory)
+    }
+
+    fn step(&self, registers: &mut [u64], answer: &mut [u64], code: Code, memory: Memory, calls: &mut [u8]) -> u64 {
+        exports::step(registers, answer, code, memory, calls)
+    }
+
+    fn run(&self, registers: &mut [u64], answer: &mut [u64], budget: u64, code: Code, memory: Memory) -> u64 {
+        exports::run(registers, answer, budget, code, memory)
+    }
+
+    fn trace_execution(
+        &self,
+        registers: &mut [u64],
+        answer: &mut [u64],
+        budget: u64,
+        code: Code,
+        memory: Memory,
+        log: &mut [u8],
+    ) -> u64 {
+        exports::trace_execution(registers, answer, budget, code, memory, log)
+    }
+
+    fn helper_variables(&self, registers: &[u64], helpers: &mut [u64], code: Code, memory: Memory) -> u64 {
+        exports::helper_variables(registers, helpers, code, memory.view())
+    }
 }
 
 /// Everything that is lent but for answer and bytes, owned.

@@ -3,11 +3,12 @@
 mod execute;
 mod helpers;
 mod place_a;
+pub mod replay;
 
 use crate::instructions::decode;
 use crate::lent::{answer, ending, register, Calls, Code, Memory, STEP_BYTES};
-use crate::records::{bytes_of, Record};
 use crate::tip5::State;
+use kixombu::{bytes_of, Record};
 use place_a::{place_a, Handed};
 
 /// A refusal's number and the words that it carries.

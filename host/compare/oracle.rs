@@ -1,7 +1,7 @@
 //! Runs the oracle on job files and reads what it prints.
 use crate::job::Job;
 use crate::lent::{register, Machine};
-use crate::records::Record;
+use kixombu::Record;
 use std::io::{BufRead, BufReader};
 use std::path::{Path, PathBuf};
 use std::process::{exit, Command, Stdio};
@@ -118,6 +118,16 @@ impl Oracle {
                 (name, words.last().unwrap().parse().unwrap())
             })
             .collect()
+    }
+
+    /// The job's call log, as the Rust's steps wrote it. `piece` keeps the files of threads apart.
+    pub fn log(&self, piece: u64, job: &Job) -> Vec<u8> {
+        let file = self.folder.join(format!("log-{piece}"));
+        std::fs::write(&file, job.file()).unwrap();
+        let output = Command::new(&self.program).arg("log").arg(&file).output().unwrap();
+        assert!(output.status.success(), "{}", String::from_utf8_lossy(&output.stderr));
+        std::fs::remove_file(&file).unwrap();
+        output.stdout
     }
 
     pub fn program(&self) -> &Path {

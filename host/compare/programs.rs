@@ -1,5 +1,5 @@
 //! Random programs that run for long: gadgets that put down what they need, loops, functions, and now and then a fault.
-use crate::field::P;
+use crate::field::{add, P};
 use crate::instructions::{named, Argument, ALL};
 use crate::job::{Job, Start};
 use crate::random::Random;
@@ -19,21 +19,41 @@ struct Builder<'a> {
     has_sponge: bool,
     /// One in so many operands is a bad one.
     fault_rate: u64,
+    /// Addresses that were written to, where half of the gadgets are to use RAM.
+    written: Option<Vec<u64>>,
 }
 
 /// A job that starts from an opening.
 pub fn program(random: &mut Random) -> Job {
+    build(random, None)
+}
+
+/// One that uses RAM much, and most times where it was written.
+pub fn remembering(random: &mut Random) -> Job {
+    build(random, Some(vec![]))
+}
+
+fn build(random: &mut Random, written: Option<Vec<u64>>) -> Job {
     let fault_rate = random.pick(&[60, 300, 100_000]);
     let functions = 1 + random.index(4);
-    let mut builder =
-        Builder { random, slots: vec![], depth: 16, calls: vec![], functions, callable_from: 0, has_sponge: false, fault_rate };
+    let mut builder = Builder {
+        random,
+        slots: vec![],
+        depth: 16,
+        calls: vec![],
+        functions,
+        callable_from: 0,
+        has_sponge: false,
+        fault_rate,
+        written,
+    };
     builder.main();
     let starts: Vec<usize> = (0..functions).map(|function| builder.function(function)).collect();
     for (at, function) in std::mem::take(&mut builder.calls) {
         builder.slots[at].1 = starts[function] as u64;
         builder.slots[at + 1].1 = starts[function] as u64;
     }
-    let slots = builder.slots;
+    let (slots, remembers) = (builder.slots, builder.written.is_some());
     let inputs = if random.once_in(4) { 10 } else { 300 };
     Job {
         digest: core::array::from_fn(|_| random.word()),
@@ -41,7 +61,7 @@ pub fn program(random: &mut Random) -> Job {
         public: random.words(inputs),
         secret: random.words(inputs),
         digests: (0..inputs / 5).map(|_| core::array::from_fn(|_| random.word())).collect(),
-        ram: cells(random, 12),
+        ram: if remembers { cells_at(spread, random, 300) } else { cells(random, 12) },
         budget: random.between(1, 2500) as u32,
         start: None,
     }
@@ -92,9 +112,13 @@ pub fn argument(random: &mut Random, argument: Argument) -> u64 {
 
 /// Up to so many cells near the bases, in no order.
 pub fn cells(random: &mut Random, most: u64) -> Vec<(u64, u64)> {
+    cells_at(near, random, most)
+}
+
+pub fn cells_at(address: fn(&mut Random) -> u64, random: &mut Random, most: u64) -> Vec<(u64, u64)> {
     let mut cells: Vec<(u64, u64)> = vec![];
     for _ in 0..random.below(most + 1) {
-        let address = near(random);
+        let address = address(random);
         if cells.iter().all(|cell| cell.0 != address) {
             cells.push((address, random.word()));
         }
@@ -103,7 +127,12 @@ pub fn cells(random: &mut Random, most: u64) -> Vec<(u64, u64)> {
 }
 
 pub fn near(random: &mut Random) -> u64 {
-    crate::field::add(random.pick(&BASES), random.below(14))
+    add(random.pick(&BASES), random.below(14))
+}
+
+/// Of some eight hundred addresses.
+pub fn spread(random: &mut Random) -> u64 {
+    add(near(random), random.below(120))
 }
 
 impl Builder<'_> {
@@ -283,8 +312,42 @@ impl Builder<'_> {
         }
     }
 
+    /// A write to some addresses, or a read, most times of ones written to.
+    fn in_ram(&mut self) {
+        let count = self.random.between(1, 5);
+        let known = self.written.take().unwrap_or_default();
+        let address = match self.random.below(8) {
+            0..3 if !known.is_empty() => self.random.pick(&known),
+            3 => near(self.random),
+            _ => spread(self.random),
+        };
+        let written = if self.random.once_in(2) || known.is_empty() {
+            self.push_words(count as usize);
+            self.push(address);
+            self.emit("write_mem", count);
+            known.into_iter().chain((0..count).map(|i| add(address, i))).collect()
+        } else {
+            let address = if self.random.once_in(5) { address } else { self.random.pick(&known) };
+            self.push(address);
+            let name = self.random.pick(&["read_mem", "read_mem", "xx_dot_step", "xb_dot_step"]);
+            match name {
+                "read_mem" => self.emit(name, count),
+                _ => {
+                    let other = self.random.pick(&known);
+                    self.push(other);
+                    self.emit(name, 0);
+                }
+            }
+            known
+        };
+        self.written = Some(written);
+    }
+
     /// Something whole: operands, an instruction, its results left on the stack.
     fn gadget(&mut self) {
+        if self.written.is_some() && self.random.once_in(2) {
+            return self.in_ram();
+        }
         let count = self.random.between(1, 5);
         match self.random.below(24) {
             0..6 => {

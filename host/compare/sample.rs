@@ -4,15 +4,15 @@
 use host::check::{least, limited, used, write_cells};
 use host::damaged::{list, Damaged};
 use host::entries::{decode_all, encode_all, fits, most, Entry, Full};
-use host::ffi::Library;
 use host::instructions::{Instruction, ALL};
 use host::job::{Before, Job, Room};
+use host::lent::Library;
 use host::lent::{answer, register, Calls, Machine, STEP_BYTES};
 use host::model::Model;
 use host::oracle::{End, Oracle, Refused, Report, State};
 use host::random::Random;
-use host::records::bytes_of;
 use host::states::{broken, single};
+use kixombu::bytes_of;
 use std::collections::BTreeMap;
 use std::process::exit;
 

@@ -1,45 +1,7 @@
-//! Lent slices between guards, and one call on them.
+//! Everything lent between guards, and one call on it.
 use crate::input::{Export, Input};
+use host::guard::Guarded;
 use host::lent::{Calls, Code, Memory};
-
-const SIDE: usize = 4;
-
-/// A slice with guards in front and behind.
-struct Guarded<T> {
-    all: Vec<T>,
-    guard: T,
-}
-
-impl<T: Copy + PartialEq> Guarded<T> {
-    fn new(guard: T) -> Self {
-        Guarded { all: vec![], guard }
-    }
-
-    fn set(&mut self, elements: &[T]) {
-        self.all.clear();
-        self.all.extend([self.guard; SIDE]);
-        self.all.extend(elements);
-        self.all.extend([self.guard; SIDE]);
-    }
-
-    fn slice(&mut self) -> &mut [T] {
-        let end = self.all.len() - SIDE;
-        &mut self.all[SIDE..end]
-    }
-
-    fn inside(&self) -> &[T] {
-        &self.all[SIDE..self.all.len() - SIDE]
-    }
-
-    fn holds(&self, elements: &[T]) -> bool {
-        self.inside() == elements
-    }
-
-    fn is_intact(&self) -> bool {
-        let end = self.all.len() - SIDE;
-        self.all[..SIDE].iter().chain(&self.all[end..]).all(|element| *element == self.guard)
-    }
-}
 
 /// Everything that a call is lent, each slice between its guards.
 pub struct Arena {

@@ -1,6 +1,6 @@
 //! The longest slices: one of the limit's length is taken, one longer is refused with 1.
-use host::ffi::Library;
-use host::lent::{answer, register, Calls, Machine, LONGEST, STEP_BYTES};
+use crate::by_record::ByRecord;
+use host::lent::{answer, register, Calls, Library, Machine, LONGEST, STEP_BYTES};
 use host::model::Model;
 
 /// Slices that have to be of one length go together; the digests are in fives.
@@ -52,7 +52,7 @@ fn calls(machine: &mut Machine, buffer: usize, expected: u64) {
 /// The calls that take a buffer.
 fn buffers(machine: &mut Machine, length: usize, expected: u64) {
     let mut buffer = vec![0; length];
-    for by in [&Library as &dyn Calls, &Model] {
+    for by in [&Library as &dyn Calls, &ByRecord, &Model] {
         let before = machine.registers.clone();
         assert_eq!(machine.step(by, &mut buffer)[answer::NUMBER], expected);
         machine.registers = before.clone();

@@ -1,40 +1,28 @@
 //! fuzz [CALLS [SEED]]: so many calls of each export on arbitrary input, each made twice between guards and held to the model.
 //! fuzz piece N SEED: one piece of that work again.
+mod by_record;
 mod guard;
 mod input;
 mod lengths;
 
+use by_record::ByRecord;
 use guard::Arena;
-use host::ffi::{ByRecord, Library};
 use host::instructions::{decode, named};
-use host::lent::{register, Calls};
+use host::lent::{register, Calls, Library};
 use host::model::Model;
 use host::random::Random;
+use host::work::{self, fail, Watched};
 use input::{inputs, Export, Input, EXPORTS};
-use std::collections::BTreeMap;
 use std::process::exit;
-use std::sync::atomic::{AtomicU64, Ordering::Relaxed};
-use std::sync::Mutex;
-use std::time::{Duration, Instant};
+use std::time::Instant;
 
-/// No call may take longer.
-const LIMIT: Duration = Duration::from_secs(5);
 /// How many calls of an export are one piece of work.
 const PIECE: u64 = 20_000;
 
-type Counts = BTreeMap<(&'static str, u64), u64>;
-
-/// When the current call of a thread began, in milliseconds and one, and which it is.
-#[derive(Default)]
-struct Watched {
-    since: AtomicU64,
-    piece: AtomicU64,
-    call: AtomicU64,
-}
+type Counts = work::Counts<(&'static str, u64)>;
 
 struct Fuzz {
     seed: u64,
-    start: Instant,
 }
 
 impl Fuzz {
@@ -44,11 +32,9 @@ impl Fuzz {
         let mut arenas = [Arena::new(0xa5a5_a5a5_a5a5_a5a5), Arena::new(0x0123_4567_89ab_cdef), Arena::new(0)];
         let mut counts = Counts::new();
         let mut call = 0;
-        watched.piece.store(piece, Relaxed);
         while call < PIECE {
             for input in inputs(export, &mut random) {
-                watched.call.store(call, Relaxed);
-                watched.since.store(self.start.elapsed().as_millis() as u64 + 1, Relaxed);
+                watched.begins(call);
                 let number = compare(export, &input, &mut arenas).map_err(|text| {
                     format!(
                         "{}: {text}\ninput: {input:?}\nrepeat: fuzz piece {piece} {}; it is call {call}",
@@ -56,7 +42,7 @@ impl Fuzz {
                         self.seed
                     )
                 })?;
-                watched.since.store(0, Relaxed);
+                watched.ends();
                 *counts.entry((export.name(), number)).or_default() += 1;
                 call += 1;
             }
@@ -95,8 +81,8 @@ fn main() {
     let mut words = std::env::args().skip(1 + is_piece as usize).map(|word| word.parse().unwrap_or_else(|_| usage()));
     if is_piece {
         let piece = words.next().unwrap_or_else(|| usage());
-        let fuzz = Fuzz { seed: words.next().unwrap_or_else(|| usage()), start: Instant::now() };
-        match fuzz.piece(piece, &Watched::default()) {
+        let fuzz = Fuzz { seed: words.next().unwrap_or_else(|| usage()) };
+        match fuzz.piece(piece, &Watched::new(Instant::now())) {
             Ok(counts) => return print(&counts),
             Err(text) => fail(&text),
         }
@@ -106,46 +92,14 @@ fn main() {
     println!("seed {seed}: {calls} calls of each export");
     lengths::check();
     let pieces = calls.div_ceil(PIECE) * EXPORTS.len() as u64;
-    let threads = std::thread::available_parallelism().map_or(1, |n| n.get());
-    let fuzz = Fuzz { seed, start: Instant::now() };
-    let watched: Vec<Watched> = (0..threads).map(|_| Watched::default()).collect();
-    let next = AtomicU64::new(0);
-    let running = AtomicU64::new(threads as u64);
-    let total = Mutex::new(Counts::new());
-    std::thread::scope(|scope| {
-        for watched in &watched {
-            scope.spawn(|| {
-                loop {
-                    let piece = next.fetch_add(1, Relaxed);
-                    if piece >= pieces {
-                        break;
-                    }
-                    match fuzz.piece(piece, watched) {
-                        Ok(counts) => {
-                            let mut total = total.lock().unwrap();
-                            counts.into_iter().for_each(|(key, count)| *total.entry(key).or_default() += count);
-                        }
-                        Err(text) => fail(&text),
-                    }
-                }
-                running.fetch_sub(1, Relaxed);
-            });
-        }
-        while running.load(Relaxed) != 0 {
-            std::thread::sleep(Duration::from_millis(100));
-            let now = fuzz.start.elapsed().as_millis() as u64 + 1;
-            for watched in &watched {
-                let since = watched.since.load(Relaxed);
-                if since != 0 && now.saturating_sub(since) > LIMIT.as_millis() as u64 {
-                    let (piece, call) = (watched.piece.load(Relaxed), watched.call.load(Relaxed));
-                    let limit = LIMIT.as_secs();
-                    fail(&format!("a call takes over {limit} seconds\nrepeat: fuzz piece {piece} {seed}; it is call {call}"));
-                }
-            }
-        }
-    });
-    print(&total.into_inner().unwrap());
-    println!("seed {seed}: no difference, {} seconds", fuzz.start.elapsed().as_secs());
+    let fuzz = Fuzz { seed };
+    let start = Instant::now();
+    let repeat = |piece, call| format!("fuzz piece {piece} {seed}; it is call {call}");
+    match work::in_pieces(pieces, |piece, watched| fuzz.piece(piece, watched), repeat) {
+        Ok(counts) => print(&counts),
+        Err(text) => fail(&text),
+    }
+    println!("seed {seed}: no difference, {} seconds", start.elapsed().as_secs());
 }
 
 fn print(counts: &Counts) {
@@ -153,11 +107,6 @@ fn print(counts: &Counts) {
     for ((name, number), count) in counts {
         println!("{name:<26}{number:>8}{count:>12}");
     }
-}
-
-fn fail(text: &str) -> ! {
-    println!("{text}");
-    exit(1)
 }
 
 fn usage() -> ! {

@@ -3,8 +3,8 @@ use super::{refuse, Refusal, Vm};
 use crate::field::{add, inverse, mul, power, sub, x_add, x_inverse, x_mul, x_scale, Extension};
 use crate::instructions::{decode, Instruction};
 use crate::lent::Code;
-use crate::records::Record;
 use crate::tip5::{fixed, trace, State};
+use kixombu::Record;
 
 impl Vm {
     /// Gives the instruction's own calls. Refused, what it leaves is not to be used.

@@ -1,0 +1,175 @@
+//! Replay on a hash map and plain containers: the model to compare with, and what the benchmark measures against.
+use crate::field::P;
+use kixombu::exports::{replayed, LONGEST};
+use std::collections::HashMap;
+
+/// A call in the shape of the library's: answer, log, clock, cells, addresses, values, words.
+pub type Replay = fn(&mut [u64], &[u8], u64, u64, &mut [u64], &mut [u64], &mut [u64]) -> u64;
+
+/// Gives the number, and fills the answer, if it has the length of one.
+pub fn replay(
+    answer: &mut [u64],
+    log: &[u8],
+    clock: u64,
+    cells: u64,
+    addresses: &mut [u64],
+    values: &mut [u64],
+    words: &mut [u64],
+) -> u64 {
+    if answer.len() != replayed::ALL {
+        return 1;
+    }
+    let built = Built::opening(log, cells, addresses, values, words)
+        .and_then(|opening| opening.read(log, clock, addresses.len(), words.len()));
+    let (number, depth, cells) = match built {
+        Ok(built) => built.store(addresses, values, words),
+        Err(number) => (number, 0, 0),
+    };
+    answer.copy_from_slice(&[number, depth, cells]);
+    number
+}
+
+/// What is rebuilt so far, and the last clock.
+struct Built {
+    last: u64,
+    /// The words below the top sixteen.
+    stack: Vec<u64>,
+    cells: Vec<(u64, u64)>,
+    /// Where an address has its cell.
+    places: HashMap<u64, usize>,
+}
+
+impl Built {
+    /// Place A, and the opening's cells.
+    fn opening(log: &[u8], cells: u64, addresses: &[u64], values: &[u64], words: &[u64]) -> Result<Built, u64> {
+        let longest = log.len().max(addresses.len()).max(values.len()).max(words.len());
+        if longest > LONGEST || addresses.len() != values.len() {
+            return Err(1);
+        }
+        let used = usize::try_from(cells).unwrap_or(usize::MAX).min(addresses.len());
+        if addresses[..used].iter().chain(&values[..used]).any(|&word| word >= P) {
+            return Err(2);
+        }
+        let mut built = Built { last: 0, stack: vec![], cells: Vec::with_capacity(used), places: HashMap::with_capacity(used) };
+        for (place, (&address, &value)) in addresses.iter().zip(values).take(used).enumerate() {
+            built.places.insert(address, place);
+            built.cells.push((address, value));
+        }
+        if used as u64 != cells || built.places.len() != used || words.iter().any(|&word| word != 0) {
+            return Err(5);
+        }
+        Ok(built)
+    }
+
+    /// Place E, record by record.
+    fn read(mut self, log: &[u8], clock: u64, most_cells: usize, most_words: usize) -> Result<Built, u64> {
+        let mut left = log;
+        while !left.is_empty() {
+            let (kind, fields) = record(left).ok_or(40_u64)?;
+            left = &left[4 + fields.len()..];
+            if kind < 4 {
+                continue;
+            }
+            let time = number(&fields[..4]);
+            if time >= clock {
+                break;
+            }
+            // a stack record has its direction before the value
+            let at = number(&fields[4..12]);
+            let (way, value) = match kind {
+                4 => (fields[12], number(&fields[13..21])),
+                _ => (fields[20], number(&fields[12..20])),
+            };
+            if way > 1 || at >= P || value >= P {
+                return Err(40);
+            }
+            if time < self.last {
+                return Err(41);
+            }
+            self.last = time;
+            match (kind, way) {
+                (4, 1) => self.stack_write(at, value, most_words)?,
+                (4, _) => self.stack_read(at, value)?,
+                (_, 1) => self.ram_write(at, value, most_cells)?,
+                _ => self.ram_read(at, value)?,
+            }
+        }
+        Ok(self)
+    }
+
+    fn depth(&self) -> u64 {
+        self.stack.len() as u64 + 16
+    }
+
+    fn stack_write(&mut self, pointer: u64, value: u64, most: usize) -> Result<(), u64> {
+        if pointer != self.depth() {
+            return Err(42);
+        }
+        if self.stack.len() == most {
+            return Err(44);
+        }
+        self.stack.push(value);
+        Ok(())
+    }
+
+    fn stack_read(&mut self, pointer: u64, value: u64) -> Result<(), u64> {
+        if self.stack.is_empty() || pointer != self.depth() - 1 {
+            return Err(42);
+        }
+        match self.stack.pop() {
+            Some(held) if held == value => Ok(()),
+            _ => Err(43),
+        }
+    }
+
+    fn ram_write(&mut self, address: u64, value: u64, most: usize) -> Result<(), u64> {
+        match self.places.get(&address) {
+            Some(&place) => self.cells[place].1 = value,
+            None if self.cells.len() == most => return Err(44),
+            None => {
+                self.places.insert(address, self.cells.len());
+                self.cells.push((address, value));
+            }
+        }
+        Ok(())
+    }
+
+    fn ram_read(&mut self, address: u64, value: u64) -> Result<(), u64> {
+        let held = self.places.get(&address).map_or(0, |&place| self.cells[place].1);
+        if held == value {
+            Ok(())
+        } else {
+            Err(43)
+        }
+    }
+
+    /// Into what is lent; the unused cells stay, and the words behind the stack are 0 as they were.
+    fn store(self, addresses: &mut [u64], values: &mut [u64], words: &mut [u64]) -> (u64, u64, u64) {
+        words[..self.stack.len()].copy_from_slice(&self.stack);
+        for (place, &(address, value)) in self.cells.iter().enumerate() {
+            addresses[place] = address;
+            values[place] = value;
+        }
+        (0, self.depth(), self.cells.len() as u64)
+    }
+}
+
+/// Kind and fields of the record at the start; none if it is cut short, of an unknown kind or of another length.
+fn record(log: &[u8]) -> Option<(u64, &[u8])> {
+    let (length, kind) = (number(log.get(..2)?), number(log.get(2..4)?));
+    let expected = match kind {
+        1 => 2,
+        2 => 772,
+        3 => 20,
+        4 | 5 => 23,
+        _ => return None,
+    };
+    if length != expected {
+        return None;
+    }
+    Some((kind, log.get(4..2 + expected as usize)?))
+}
+
+fn number(bytes: &[u8]) -> u64 {
+    bytes.iter().rev().fold(0, |number, &byte| number << 8 | u64::from(byte))
+}

@@ -1,0 +1,174 @@
+//! Nanoseconds a record, on logs of 16 MiB, beside the plain Rust replay with a hash map (`compare/model/replay.rs`) in the same
+//! run; a ratio below 1 says that the library is faster. The best turn of each counts.
+use crate::lent::Lent;
+use host::model::replay::{replay as plain, Replay};
+use host::random::Random;
+use kixombu::exports::{replay, replayed, LONGEST};
+use kixombu::Record;
+use std::io::Write;
+use std::time::{Duration, Instant};
+
+/// How many records of stack and RAM a log of 16 MiB holds.
+const MOST: u64 = LONGEST as u64 / 25;
+/// Calls are repeated for so long, or so often: as on a busy machine many are disturbed.
+const LONG: Duration = Duration::from_secs(4);
+const TURNS: usize = 60;
+
+struct Case {
+    name: String,
+    log: Vec<u8>,
+    records: u64,
+    ram: Vec<(u64, u64)>,
+    /// What is lent.
+    cells: usize,
+    words: usize,
+}
+
+pub fn run() {
+    println!("{:<58}{:>9}{:>12}{:>12}{:>9}", "log", "records", "library ns", "Rust ns", "ratio");
+    for make in cases() {
+        let case = make();
+        print!("{:<58}{:>9}", case.name, case.records);
+        std::io::stdout().flush().unwrap();
+        let (mut ours, mut theirs) = (Duration::MAX, Duration::MAX);
+        let began = Instant::now();
+        for _ in 0..TURNS {
+            let (by_library, by_plain) = (time(&case, replay), time(&case, plain));
+            assert!(by_library.1 == by_plain.1, "the library rebuilt something else");
+            (ours, theirs) = (ours.min(by_library.0), theirs.min(by_plain.0));
+            if began.elapsed() > LONG {
+                break;
+            }
+        }
+        let each = |time: Duration| time.as_nanos() as f64 / case.records as f64;
+        println!("{:>12.1}{:>12.1}{:>9.2}", each(ours), each(theirs), each(ours) / each(theirs));
+    }
+}
+
+/// One call, which must succeed: its time, without that of lending, and what it left.
+fn time(case: &Case, by: Replay) -> (Duration, Lent) {
+    let mut lent = Lent {
+        answer: vec![0; replayed::ALL],
+        clock: u64::MAX,
+        cells: case.ram.len() as u64,
+        addresses: vec![0; case.cells],
+        values: vec![0; case.cells],
+        words: vec![0; case.words],
+    };
+    for (i, &(address, value)) in case.ram.iter().enumerate() {
+        lent.addresses[i] = address;
+        lent.values[i] = value;
+    }
+    let began = Instant::now();
+    let number = lent.replay(by, &case.log);
+    let time = began.elapsed();
+    assert_eq!(number, 0, "{}", case.name);
+    (time, lent)
+}
+
+// ---- logs
+
+/// The address of the n-th record, and whether it is written.
+type Numbered = fn(u64) -> (u64, bool);
+
+fn cases() -> Vec<Box<dyn Fn() -> Case>> {
+    let mut cases: Vec<Box<dyn Fn() -> Case>> = vec![Box::new(stack), Box::new(hashing)];
+    for addresses in [16, 1_000, 4_000, 100_000] {
+        cases.push(Box::new(move || memory(addresses)));
+    }
+    cases.push(Box::new(|| opening(4_000)));
+    cases.push(Box::new(|| opening(100_000)));
+    let half = MOST / 2;
+    let writes: [(&str, u64, Numbered); 6] = [
+        ("distinct writes, ascending", MOST, |i| (i, true)),
+        ("distinct writes, descending", MOST, |i| (MOST - i, true)),
+        ("distinct writes, scattered", MOST, |i| (scattered(i), true)),
+        ("distinct writes, then rewrites of the last ones", half, |i| {
+            (if i < MOST / 2 { i } else { MOST / 2 - 1 - i % 16 }, true)
+        }),
+        ("distinct writes, then reads of absent addresses", half, |i| (i, i < MOST / 2)),
+        ("reads of absent addresses, nothing written", 0, |i| (i, false)),
+    ];
+    for (name, cells, record) in writes {
+        cases.push(Box::new(move || records(name, cells as usize, record)));
+    }
+    cases
+}
+
+/// A word for each number, no two alike: a multiplication that is odd, without the highest bit.
+fn scattered(i: u64) -> u64 {
+    i.wrapping_mul(0x9e37_79b9_7f4a_7c15) & (u64::MAX >> 1)
+}
+
+fn case(name: String, all: impl Iterator<Item = Record>, ram: Vec<(u64, u64)>, cells: usize, words: usize) -> Case {
+    let (mut log, mut records) = (Vec::with_capacity(LONGEST), 0);
+    for record in all {
+        let before = log.len();
+        record.put(&mut log);
+        if log.len() > LONGEST {
+            log.truncate(before);
+            break;
+        }
+        records += 1;
+    }
+    Case { name, log, records, ram, cells, words }
+}
+
+/// RAM records by number: address, and whether it is written; reads find 0.
+fn records(name: &str, cells: usize, record: Numbered) -> Case {
+    let all = (0..MOST).map(|clock| {
+        let (address, write) = record(clock);
+        Record::Ram { clock, address, value: if write { clock } else { 0 }, write }
+    });
+    case(name.to_string(), all, vec![], cells, 0)
+}
+
+/// Waves of a thousand writes and a thousand reads.
+fn stack() -> Case {
+    let all = (0..MOST).map(|clock| {
+        let (wave, i) = (clock / 2000, clock % 2000);
+        let (place, write) = if i < 1000 { (i, true) } else { (1999 - i, false) };
+        Record::Stack { clock, pointer: place + 16, write, value: wave * 1000 + place }
+    });
+    case("stack, waves of 1,000 words".to_string(), all, vec![], 0, 1000)
+}
+
+/// Ten words pushed, hashed and five taken off again.
+fn hashing() -> Case {
+    let states: Vec<u64> = (0..96).collect();
+    let all = (0..).flat_map(move |round: u64| {
+        let record =
+            move |i: u64, pointer: u64, write: bool| Record::Stack { clock: 16 * round + i, pointer, write, value: pointer };
+        let pushed = (0..10).map(move |i| record(i, 16 + i, true));
+        let hashed = [Record::Tip5(18, states.clone())].into_iter();
+        let taken = (0..10).map(move |i| record(10 + i / 2, 25 - i, false));
+        pushed.chain(hashed).chain(taken)
+    });
+    case("hashing, a Tip5 record and 20 of the stack in turn".to_string(), all, vec![], 0, 10)
+}
+
+/// Writes and reads in turn at random ones of so many addresses.
+fn memory(addresses: u64) -> Case {
+    let mut random = Random::new(7);
+    let mut held = vec![0; addresses as usize];
+    let all = (0..MOST).map(move |clock| {
+        let place = random.index(held.len());
+        if clock % 2 == 0 {
+            held[place] = clock;
+        }
+        Record::Ram { clock, address: scattered(place as u64), value: held[place], write: clock % 2 == 0 }
+    });
+    case(format!("RAM, {addresses} addresses, writes and reads in turn"), all, vec![], addresses as usize, 0)
+}
+
+/// Reads of so many cells of the opening, at random.
+fn opening(cells: u64) -> Case {
+    let mut random = Random::new(8);
+    let ram: Vec<(u64, u64)> = (0..cells).map(|i| (scattered(i), i)).collect();
+    let all = (0..MOST).map(|clock| {
+        let (address, value) = ram[random.index(ram.len())];
+        Record::Ram { clock, address, value, write: false }
+    });
+    let built: Vec<Record> = all.collect();
+    case(format!("RAM, reads of {cells} cells of the opening"), built.into_iter(), ram, cells as usize, 0)
+}

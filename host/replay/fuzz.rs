@@ -1,0 +1,73 @@
+//! Damaged logs: each replayed twice between guards and held to the model.
+use crate::damage::{input, Base};
+use crate::lent::{Arena, Lent};
+use host::model::replay::replay as model;
+use host::random::Random;
+use host::work::{Counts, Watched};
+use kixombu::exports::replay;
+
+/// How many calls are one piece of work, and from how many sound logs.
+pub const PIECE: u64 = 20_000;
+const BASES: usize = 40;
+
+/// What a run has to meet.
+pub const KINDS: [&str; 11] = [
+    "replayed whole",
+    "replayed to a clock",
+    "refused with 1",
+    "refused with 2",
+    "refused with 5",
+    "refused with 40",
+    "refused with 41",
+    "refused with 42",
+    "refused with 43",
+    "refused with 44",
+    "answers of another length",
+];
+
+pub fn piece(seed: u64, piece: u64, watched: &Watched) -> Result<Counts<&'static str>, String> {
+    let mut random = Random::for_piece(seed, piece);
+    let bases: Vec<Base> = (0..BASES).map(|_| Base::new(&mut random)).collect();
+    let mut arenas = [Arena::new(0xa5a5_a5a5_a5a5_a5a5), Arena::new(0x0123_4567_89ab_cdef)];
+    let mut counts = Counts::new();
+    for call in 0..PIECE {
+        let (log, lent) = input(&bases, &mut random);
+        watched.begins(call);
+        let kind =
+            compare(&log, &lent, &mut arenas).map_err(|text| format!("call {call}: {text}\nlog: {log:?}\nlent: {lent:?}"))?;
+        watched.ends();
+        *counts.entry(kind).or_default() += 1;
+    }
+    Ok(counts)
+}
+
+/// The library twice, with other guards the second time, beside the model. Gives the kind of what was met.
+fn compare(log: &[u8], lent: &Lent, arenas: &mut [Arena; 2]) -> Result<&'static str, String> {
+    let mut expected = lent.clone();
+    let number = expected.replay(model, log);
+    let unchanged = Lent { answer: expected.answer.clone(), ..lent.clone() };
+    if number != 0 && expected != unchanged {
+        return Err(format!("the model refused with {number}, and changed something"));
+    }
+    for arena in arenas {
+        arena.replay(replay, log, lent, (number, &expected))?;
+    }
+    Ok(kind(number, lent))
+}
+
+fn kind(number: u64, lent: &Lent) -> &'static str {
+    match number {
+        _ if lent.answer.len() != 3 => "answers of another length",
+        0 if lent.clock >= 1 << 32 => "replayed whole",
+        0 => "replayed to a clock",
+        1 => "refused with 1",
+        2 => "refused with 2",
+        5 => "refused with 5",
+        40 => "refused with 40",
+        41 => "refused with 41",
+        42 => "refused with 42",
+        43 => "refused with 43",
+        44 => "refused with 44",
+        _ => "refused with a number that is not replay's",
+    }
+}

@@ -1,0 +1,260 @@
+//! Logs of the original Rust (`oracle log`) for random jobs, replayed to their clocks: depth, cells and stack are the Rust's after
+//! so many steps; and with each read altered, which is refused.
+use crate::lent::{Arena, Lent};
+use host::check::write_cells;
+use host::field::P;
+use host::job::Job;
+use host::model::replay::replay as model;
+use host::oracle::{Oracle, Report, State};
+use host::programs::{program, remembering};
+use host::random::Random;
+use host::work::{Counts, Watched};
+use kixombu::exports::{replay, replayed};
+use kixombu::{bytes_of, records, Record};
+
+/// How many jobs are one piece of work.
+pub const PIECE: u64 = 10;
+/// Jobs of so many steps are replayed to every clock, longer ones to some.
+const SHORT: usize = 300;
+const SOME: usize = 60;
+/// Of a log with more reads, so many are altered.
+const READS: usize = 500;
+
+/// What a run has to meet.
+pub const KINDS: [&str; 11] = [
+    "jobs",
+    "jobs to every clock",
+    "stack writes",
+    "stack reads",
+    "RAM writes to new cells",
+    "RAM writes to held cells",
+    "RAM reads",
+    "RAM reads of absent addresses",
+    "altered reads refused with 40",
+    "altered reads refused with 43",
+    "altered reads behind the stop",
+];
+
+pub struct Logs {
+    oracle: Oracle,
+}
+
+impl Logs {
+    pub fn new() -> Logs {
+        Logs { oracle: Oracle::new("replay") }
+    }
+
+    pub fn piece(&self, seed: u64, piece: u64, watched: &Watched) -> Result<Counts<&'static str>, String> {
+        let mut random = Random::for_piece(seed, piece);
+        let jobs: Vec<Job> =
+            (0..PIECE).map(|i| if i % 2 == 0 { remembering(&mut random) } else { program(&mut random) }).collect();
+        let mut counts = Counts::new();
+        let mut found = Ok(());
+        self.oracle.run(piece, &jobs, |place, report| {
+            if found.is_ok() {
+                let job = &jobs[place];
+                let log = self.oracle.log(piece, job);
+                found = Checked::new(job, &report, log, &mut random)
+                    .and_then(|mut checked| checked.check(&mut counts, &mut random, watched))
+                    .map_err(|text| format!("job {place} of the piece, {text}\njob: {job:?}"));
+            }
+        });
+        found.map(|()| counts)
+    }
+}
+
+/// A job's log, and what each clock must give.
+struct Checked {
+    log: Vec<u8>,
+    records: Vec<Record>,
+    /// The Rust's states: the opening, then what each step left.
+    states: Vec<State>,
+    /// The cells in order at each of them.
+    cells: Vec<Vec<(u64, u64)>>,
+    /// As it is lent at each call.
+    lent: Lent,
+    arena: Arena,
+    calls: u64,
+}
+
+impl Checked {
+    fn new(job: &Job, report: &Report, log: Vec<u8>, random: &mut Random) -> Result<Checked, String> {
+        let opened = report.opened.clone().expect("a job of a random program opens");
+        let (mut states, mut cells, mut steps) = (vec![opened], vec![job.ram.clone()], vec![]);
+        for step in &report.tried {
+            if let Ok(records) = &step.result {
+                let mut now = cells.last().unwrap().clone();
+                write_cells(&mut now, records);
+                cells.push(now);
+                states.push(step.state.clone());
+                steps.extend(records.clone());
+            }
+        }
+        if bytes_of(&steps) != log {
+            return Err("the oracle's log is not its calls' bytes".to_string());
+        }
+        let deepest = states.iter().map(|state| state.stack.len()).max().unwrap();
+        let most = cells.last().unwrap().len();
+        let lent = lent(&job.ram, most + random.index(3), deepest - 16 + random.pick(&[0, 1, 16]), random);
+        let arena = Arena::new(random.next());
+        Ok(Checked { log, records: steps, states, cells, lent, arena, calls: 0 })
+    }
+
+    fn check(&mut self, counts: &mut Counts<&'static str>, random: &mut Random, watched: &Watched) -> Result<(), String> {
+        self.count(counts);
+        let steps = self.states.len() - 1;
+        let clocks: Vec<u64> = if steps <= SHORT {
+            *counts.entry("jobs to every clock").or_default() += 1;
+            (0..=steps as u64 + 1).chain([u64::MAX]).collect()
+        } else {
+            let some = (0..SOME).map(|_| random.below(steps as u64 + 1));
+            [0, 1, steps as u64, steps as u64 + 1, u64::MAX].into_iter().chain(some).collect()
+        };
+        for clock in clocks {
+            self.replay_to(clock, watched)?;
+            *counts.entry("replays").or_default() += 1;
+        }
+        self.altered(counts, random, watched)
+    }
+
+    fn count(&self, counts: &mut Counts<&'static str>) {
+        let mut add = |name, more: u64| *counts.entry(name).or_default() += more;
+        add("jobs", 1);
+        add("bytes of logs", self.log.len() as u64);
+        let mut held: Vec<u64> = self.cells[0].iter().map(|cell| cell.0).collect();
+        for record in &self.records {
+            match *record {
+                Record::Stack { write, .. } => add(if write { "stack writes" } else { "stack reads" }, 1),
+                Record::Ram { address, write, .. } => {
+                    let is_held = held.contains(&address);
+                    match (write, is_held) {
+                        (true, true) => add("RAM writes to held cells", 1),
+                        (true, false) => add("RAM writes to new cells", 1),
+                        (false, true) => add("RAM reads", 1),
+                        (false, false) => add("RAM reads of absent addresses", 1),
+                    }
+                    if write && !is_held {
+                        held.push(address);
+                    }
+                }
+                _ => add("records only measured", 1),
+            }
+        }
+    }
+
+    /// What the Rust's state after so many steps, or after all, makes of what is lent.
+    fn expected(&self, clock: u64) -> Lent {
+        let place = usize::try_from(clock).unwrap_or(usize::MAX).min(self.states.len() - 1);
+        let (state, cells) = (&self.states[place], &self.cells[place]);
+        let mut expected = self.lent.clone();
+        expected.clock = clock;
+        expected.answer = vec![0, state.stack.len() as u64, cells.len() as u64];
+        let below = state.stack.len() - 16;
+        expected.words[..below].copy_from_slice(&state.stack[..below]);
+        for (i, &(address, value)) in cells.iter().enumerate() {
+            expected.addresses[i] = address;
+            expected.values[i] = value;
+        }
+        expected
+    }
+
+    /// The library's replay between guards, held to what is expected.
+    fn call(&mut self, clock: u64, expected: (u64, &Lent), watched: &Watched) -> Result<(), String> {
+        self.calls += 1;
+        self.lent.clock = clock;
+        watched.begins(self.calls);
+        let found = self.arena.replay(replay, &self.log, &self.lent, expected);
+        watched.ends();
+        found.map_err(|text| format!("clock {clock}: {text}"))
+    }
+
+    fn replay_to(&mut self, clock: u64, watched: &Watched) -> Result<(), String> {
+        let expected = self.expected(clock);
+        // the Rust keeps no order of cells: the order is that of its writes, the cells are its own
+        let place = usize::try_from(clock).unwrap_or(usize::MAX).min(self.states.len() - 1);
+        let mut sorted = self.cells[place].clone();
+        sorted.sort_unstable();
+        assert_eq!(sorted, self.states[place].ram, "the cells by the oracle's writes are the oracle's");
+        let mut by_model = Lent { clock, ..self.lent.clone() };
+        if by_model.replay(model, &self.log) != 0 || by_model != expected {
+            return Err(format!("clock {clock}: the model differs from the Rust"));
+        }
+        self.call(clock, (0, &expected), watched)
+    }
+
+    /// Each read altered in turn, or some: to another word and to no word, seen behind its clock and not seen before it.
+    fn altered(&mut self, counts: &mut Counts<&'static str>, random: &mut Random, watched: &Watched) -> Result<(), String> {
+        let mut reads = vec![];
+        let mut at = 0;
+        for record in &self.records {
+            match *record {
+                Record::Stack { clock, write: false, value, .. } => reads.push((at + 17, clock, value)),
+                Record::Ram { clock, write: false, value, .. } => reads.push((at + 16, clock, value)),
+                _ => {}
+            }
+            at += bytes_of(std::slice::from_ref(record)).len();
+        }
+        while reads.len() > READS {
+            reads.swap_remove(random.index(reads.len()));
+        }
+        for (at, clock, value) in reads {
+            self.altered_read(at, clock, value, counts, random, watched)
+                .map_err(|text| format!("the read at byte {at} altered, {text}"))?;
+        }
+        Ok(())
+    }
+
+    fn altered_read(
+        &mut self,
+        at: usize,
+        clock: u64,
+        value: u64,
+        counts: &mut Counts<&'static str>,
+        random: &mut Random,
+        watched: &Watched,
+    ) -> Result<(), String> {
+        let steps = self.states.len() as u64 - 1;
+        let another = match random.below(3) {
+            0 => (value + 1) % P,
+            1 => value ^ 1 << random.below(32),
+            _ => random.word(),
+        };
+        let another = if another == value || another >= P { (value + P - 1) % P } else { another };
+        for (altered, number) in [(another, 43), (random.too_large(), 40)] {
+            self.log[at..at + 8].copy_from_slice(&altered.to_le_bytes());
+            let later = if random.once_in(8) { u64::MAX } else { random.between(clock + 1, steps.max(clock) + 1) };
+            let mut expected = Lent { clock: later, ..self.lent.clone() };
+            expected.answer = vec![number, 0, 0];
+            self.call(later, (number, &expected), watched)?;
+            let name = if number == 43 { "altered reads refused with 43" } else { "altered reads refused with 40" };
+            *counts.entry(name).or_default() += 1;
+            if random.once_in(10) {
+                let earlier = random.between(0, clock);
+                let expected = self.expected(earlier);
+                self.call(earlier, (0, &expected), watched)?;
+                *counts.entry("altered reads behind the stop").or_default() += 1;
+            }
+        }
+        self.log[at..at + 8].copy_from_slice(&value.to_le_bytes());
+        debug_assert!(records(&self.log).all(|record| record.is_ok()));
+        Ok(())
+    }
+}
+
+/// The opening's cells, and whatever behind them; an answer of anything.
+fn lent(ram: &[(u64, u64)], cells: usize, words: usize, random: &mut Random) -> Lent {
+    let mut any = |n: usize| -> Vec<u64> { (0..n).map(|_| random.next()).collect() };
+    let mut lent = Lent {
+        answer: any(replayed::ALL),
+        clock: 0,
+        cells: ram.len() as u64,
+        addresses: any(cells),
+        values: any(cells),
+        words: vec![0; words],
+    };
+    for (i, &(address, value)) in ram.iter().enumerate() {
+        lent.addresses[i] = address;
+        lent.values[i] = value;
+    }
+    lent
+}

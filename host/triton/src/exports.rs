@@ -1,0 +1,264 @@
+//! The library's exports, as functions over slices: the calls for who has memory of their own. [`Job`](crate::Job) is easier.
+//!
+//! Each function mirrors the export of its name in the crate `exports`, whose `src/lib.rt` lists the words of registers and
+//! answers. The calls ask for nothing: slices of any length and with any words are answered, or refused by a number, and on a
+//! refusal everything lent is as it was (save skiz's dropped word, and the steps before a run's refusal).
+//!
+//! This file has all the unsafe code. A slice goes over as pointer and length, the register record as pointer; what is `&mut` is
+//! lent once.
+#![allow(unsafe_code)]
+
+pub use crate::registers::Registers;
+
+/// Places in the register slice.
+pub mod register {
+    pub const CLOCK: usize = 0;
+    pub const POINTER: usize = 1;
+    pub const DEPTH: usize = 2;
+    pub const JUMPS: usize = 3;
+    pub const CELLS: usize = 4;
+    pub const OUTPUTS: usize = 5;
+    pub const PUBLICS: usize = 6;
+    pub const SECRETS: usize = 7;
+    pub const DIGESTS: usize = 8;
+    pub const HALTED: usize = 9;
+    pub const SPONGE_SET: usize = 10;
+    /// The first of sixteen words.
+    pub const SPONGE: usize = 11;
+    /// How many words there are.
+    pub const ALL: usize = 27;
+}
+
+/// Places in the answer slice.
+pub mod answer {
+    pub const ENDING: usize = 0;
+    pub const NUMBER: usize = 1;
+    /// The first of the three words that a refusal carries.
+    pub const WORDS: usize = 2;
+    pub const STEPS: usize = 5;
+    pub const BYTES: usize = 6;
+    /// How many words there are.
+    pub const ALL: usize = 7;
+}
+
+/// The ending in an answer.
+pub mod ending {
+    /// Opened, taken or halted.
+    pub const DONE: u64 = 0;
+    pub const SPENT: u64 = 1;
+    /// The log is full.
+    pub const FULL: u64 = 2;
+    pub const REFUSED: u64 = 3;
+}
+
+/// Places in replay's answer slice.
+pub mod replayed {
+    pub const NUMBER: usize = 0;
+    pub const DEPTH: usize = 1;
+    pub const CELLS: usize = 2;
+    /// How many words there are.
+    pub const ALL: usize = 3;
+}
+
+/// No lent slice has more elements.
+pub const LONGEST: usize = 16_777_216;
+
+/// The most bytes that one step records.
+pub const STEP_BYTES: usize = 1024;
+
+/// The program and the inputs.
+#[derive(Clone, Copy, Debug)]
+pub struct Code<'a> {
+    pub opcodes: &'a [u64],
+    pub arguments: &'a [u64],
+    pub public: &'a [u64],
+    pub secret: &'a [u64],
+    pub digests: &'a [u64],
+}
+
+/// What is lent to be changed.
+#[derive(Debug)]
+pub struct Memory<'a> {
+    pub op_stack: &'a mut [u64],
+    pub origins: &'a mut [u64],
+    pub destinations: &'a mut [u64],
+    pub addresses: &'a mut [u64],
+    pub values: &'a mut [u64],
+    pub output: &'a mut [u64],
+}
+
+/// The same, only to be read.
+#[derive(Clone, Copy, Debug)]
+pub struct MemoryView<'a> {
+    pub op_stack: &'a [u64],
+    pub origins: &'a [u64],
+    pub destinations: &'a [u64],
+    pub addresses: &'a [u64],
+    pub values: &'a [u64],
+    pub output: &'a [u64],
+}
+
+impl Memory<'_> {
+    pub fn view(&self) -> MemoryView<'_> {
+        let Memory { op_stack, origins, destinations, addresses, values, output } = self;
+        MemoryView { op_stack, origins, destinations, addresses, values, output }
+    }
+}
+
+type Words = *const u64;
+type MutWords = *mut u64;
+
+#[rustfmt::skip]
+#[link(name = "exports", kind = "static")]
+extern "C" {
+    // exports/src/open.rt: triton_open(registers, answer, digest, cells, code, memory)
+    fn triton_open(
+        registers: MutWords, _: usize, answer: MutWords, _: usize, digest: Words, _: usize, cells: u64,
+        opcodes: Words, _: usize, arguments: Words, _: usize, public: Words, _: usize, secret: Words, _: usize, digests: Words, _: usize,
+        op_stack: MutWords, _: usize, origins: MutWords, _: usize, destinations: MutWords, _: usize,
+        addresses: MutWords, _: usize, values: MutWords, _: usize, output: MutWords, _: usize,
+    ) -> u64;
+
+    // exports/src/step.rt: triton_step(registers, answer, code, memory, calls)
+    fn triton_step(
+        registers: MutWords, _: usize, answer: MutWords, _: usize,
+        opcodes: Words, _: usize, arguments: Words, _: usize, public: Words, _: usize, secret: Words, _: usize, digests: Words, _: usize,
+        op_stack: MutWords, _: usize, origins: MutWords, _: usize, destinations: MutWords, _: usize,
+        addresses: MutWords, _: usize, values: MutWords, _: usize, output: MutWords, _: usize,
+        calls: *mut u8, _: usize,
+    ) -> u64;
+
+    // exports/src/thin.rt: triton_step_registers(registers, answer, code, memory, calls)
+    fn triton_step_registers(
+        registers: *mut Registers, answer: MutWords, _: usize,
+        opcodes: Words, _: usize, arguments: Words, _: usize, public: Words, _: usize, secret: Words, _: usize, digests: Words, _: usize,
+        op_stack: MutWords, _: usize, origins: MutWords, _: usize, destinations: MutWords, _: usize,
+        addresses: MutWords, _: usize, values: MutWords, _: usize, output: MutWords, _: usize,
+        calls: *mut u8, _: usize,
+    ) -> u64;
+
+    // exports/src/run.rt: triton_run(registers, answer, budget, code, memory)
+    fn triton_run(
+        registers: MutWords, _: usize, answer: MutWords, _: usize, budget: u64,
+        opcodes: Words, _: usize, arguments: Words, _: usize, public: Words, _: usize, secret: Words, _: usize, digests: Words, _: usize,
+        op_stack: MutWords, _: usize, origins: MutWords, _: usize, destinations: MutWords, _: usize,
+        addresses: MutWords, _: usize, values: MutWords, _: usize, output: MutWords, _: usize,
+    ) -> u64;
+
+    // exports/src/trace.rt: triton_trace_execution(registers, answer, budget, code, memory, calls)
+    fn triton_trace_execution(
+        registers: MutWords, _: usize, answer: MutWords, _: usize, budget: u64,
+        opcodes: Words, _: usize, arguments: Words, _: usize, public: Words, _: usize, secret: Words, _: usize, digests: Words, _: usize,
+        op_stack: MutWords, _: usize, origins: MutWords, _: usize, destinations: MutWords, _: usize,
+        addresses: MutWords, _: usize, values: MutWords, _: usize, output: MutWords, _: usize,
+        calls: *mut u8, _: usize,
+    ) -> u64;
+
+    // exports/src/helper_variables.rt: triton_helper_variables(registers, helpers, code, memory); all but the helpers are only read
+    fn triton_helper_variables(
+        registers: Words, _: usize, helpers: MutWords, _: usize,
+        opcodes: Words, _: usize, arguments: Words, _: usize, public: Words, _: usize, secret: Words, _: usize, digests: Words, _: usize,
+        op_stack: Words, _: usize, origins: Words, _: usize, destinations: Words, _: usize,
+        addresses: Words, _: usize, values: Words, _: usize, output: Words, _: usize,
+    ) -> u64;
+
+    // exports/src/replay.rt: triton_replay(answer, log, clock, cells, addresses, values, words)
+    fn triton_replay(
+        answer: MutWords, _: usize, log: *const u8, _: usize, clock: u64, cells: u64,
+        addresses: MutWords, _: usize, values: MutWords, _: usize, words: MutWords, _: usize,
+    ) -> u64;
+}
+
+// An export called with what stands before code and memory, these two, and what stands behind them.
+macro_rules! call {
+    ($export:ident, [$($front:expr),*], $c:ident, $m:ident, $pointer:ident, [$($back:expr),*]) => {
+        unsafe {
+            $export(
+                $($front,)*
+                $c.opcodes.as_ptr(), $c.opcodes.len(), $c.arguments.as_ptr(), $c.arguments.len(),
+                $c.public.as_ptr(), $c.public.len(), $c.secret.as_ptr(), $c.secret.len(), $c.digests.as_ptr(), $c.digests.len(),
+                $m.op_stack.$pointer(), $m.op_stack.len(), $m.origins.$pointer(), $m.origins.len(),
+                $m.destinations.$pointer(), $m.destinations.len(), $m.addresses.$pointer(), $m.addresses.len(),
+                $m.values.$pointer(), $m.values.len(), $m.output.$pointer(), $m.output.len(),
+                $($back),*
+            )
+        }
+    };
+}
+
+/// `triton_open`: gives the number, as each of these calls does, 0 where nothing is refused. `cells` RAM cells are used.
+#[rustfmt::skip]
+pub fn open(registers: &mut [u64], answer: &mut [u64], digest: &[u64], cells: u64, code: Code, memory: Memory) -> u64 {
+    call!(triton_open,
+        [registers.as_mut_ptr(), registers.len(), answer.as_mut_ptr(), answer.len(), digest.as_ptr(), digest.len(), cells],
+        code, memory, as_mut_ptr, [])
+}
+
+/// `triton_step`: the records go to the start of `calls`.
+#[rustfmt::skip]
+pub fn step(registers: &mut [u64], answer: &mut [u64], code: Code, memory: Memory, calls: &mut [u8]) -> u64 {
+    call!(triton_step,
+        [registers.as_mut_ptr(), registers.len(), answer.as_mut_ptr(), answer.len()],
+        code, memory, as_mut_ptr, [calls.as_mut_ptr(), calls.len()])
+}
+
+/// `triton_step_registers`: [`step`] over the register record.
+#[rustfmt::skip]
+pub fn step_registers(registers: &mut Registers, answer: &mut [u64], code: Code, memory: Memory, calls: &mut [u8]) -> u64 {
+    call!(triton_step_registers,
+        [registers as *mut Registers, answer.as_mut_ptr(), answer.len()],
+        code, memory, as_mut_ptr, [calls.as_mut_ptr(), calls.len()])
+}
+
+/// `triton_run`: at most `budget` steps.
+#[rustfmt::skip]
+pub fn run(registers: &mut [u64], answer: &mut [u64], budget: u64, code: Code, memory: Memory) -> u64 {
+    call!(triton_run,
+        [registers.as_mut_ptr(), registers.len(), answer.as_mut_ptr(), answer.len(), budget],
+        code, memory, as_mut_ptr, [])
+}
+
+/// `triton_trace_execution`: at most `budget` steps, their records joined at the start of `log`.
+#[rustfmt::skip]
+pub fn trace_execution(registers: &mut [u64], answer: &mut [u64], budget: u64, code: Code, memory: Memory, log: &mut [u8]) -> u64 {
+    call!(triton_trace_execution,
+        [registers.as_mut_ptr(), registers.len(), answer.as_mut_ptr(), answer.len(), budget],
+        code, memory, as_mut_ptr, [log.as_mut_ptr(), log.len()])
+}
+
+/// `triton_helper_variables`: the six words of the next step.
+#[rustfmt::skip]
+pub fn helper_variables(registers: &[u64], helpers: &mut [u64], code: Code, memory: MemoryView) -> u64 {
+    call!(triton_helper_variables,
+        [registers.as_ptr(), registers.len(), helpers.as_mut_ptr(), helpers.len()],
+        code, memory, as_ptr, [])
+}
+
+/// `triton_replay`: the log read up to `clock` from opening RAM, of which `cells` cells are used. `words`, for the stack's words
+/// below the top sixteen, must be all 0.
+pub fn replay(
+    answer: &mut [u64],
+    log: &[u8],
+    clock: u64,
+    cells: u64,
+    addresses: &mut [u64],
+    values: &mut [u64],
+    words: &mut [u64],
+) -> u64 {
+    unsafe {
+        triton_replay(
+            answer.as_mut_ptr(),
+            answer.len(),
+            log.as_ptr(),
+            log.len(),
+            clock,
+            cells,
+            addresses.as_mut_ptr(),
+            addresses.len(),
+            values.as_mut_ptr(),
+            values.len(),
+            words.as_mut_ptr(),
+            words.len(),
+        )
+    }
+}

@@ -1,0 +1,267 @@
+//! A job over memory of its own.
+use crate::exports::{self, answer, ending, register, Code, Memory, MemoryView, LONGEST, STEP_BYTES};
+use crate::replay::{replay, Replayed};
+use crate::Refusal;
+use std::fmt::{Debug, Formatter, Result as Formatted};
+
+/// One slot of a program: an instruction with an argument stands in two.
+#[derive(Clone, Copy, Debug, Default, PartialEq, Eq, Hash)]
+pub struct Slot {
+    pub opcode: u64,
+    pub argument: u64,
+}
+
+/// What a job is opened with.
+#[derive(Clone, Debug, Default, PartialEq, Eq)]
+pub struct Opening {
+    /// The program's digest, which lies at the bottom of the stack.
+    pub digest: [u64; 5],
+    pub program: Vec<Slot>,
+    pub public_input: Vec<u64>,
+    pub secret_input: Vec<u64>,
+    pub secret_digests: Vec<[u64; 5]>,
+    /// Address and value.
+    pub ram: Vec<(u64, u64)>,
+}
+
+/// How much is lent to a job: it is refused (30 to 33) where it needs more.
+#[derive(Clone, Copy, Debug, PartialEq, Eq)]
+pub struct Sizes {
+    /// Words, at least 16.
+    pub op_stack: usize,
+    /// Entries.
+    pub jump_stack: usize,
+    /// Cells.
+    pub ram: usize,
+    /// Words.
+    pub output: usize,
+}
+
+impl Sizes {
+    /// What document 01's runjob lends.
+    pub const RUNJOB: Sizes = Sizes { op_stack: 4096, jump_stack: 1024, ram: 4096, output: 4096 };
+}
+
+/// How a run ended.
+#[derive(Clone, Copy, Debug, PartialEq, Eq)]
+pub enum Ending {
+    Halted,
+    /// As many steps succeeded as the budget allows, and the machine has not halted.
+    Spent,
+    /// Of [`Job::trace_execution`]: the log has no room for a further step, which takes up to [`STEP_BYTES`] bytes.
+    LogFull,
+    Refused(Refusal),
+}
+
+/// What a run did.
+#[derive(Clone, Copy, Debug, PartialEq, Eq)]
+pub struct Ran {
+    pub ending: Ending,
+    /// How many steps succeeded.
+    pub steps: u64,
+    /// How many bytes of the log were written.
+    pub bytes: usize,
+}
+
+/// An opened job: program, inputs and the machine's whole state, in memory that the job owns.
+///
+/// A refused call leaves the job as it was, so that it can go on with a larger budget or be looked at, with the two exceptions of
+/// document 01: a run keeps the steps before its refusal, and a skiz with nothing behind it drops its word.
+#[derive(Clone)]
+pub struct Job {
+    registers: [u64; register::ALL],
+    opcodes: Vec<u64>,
+    arguments: Vec<u64>,
+    public: Vec<u64>,
+    secret: Vec<u64>,
+    digests: Vec<u64>,
+    op_stack: Vec<u64>,
+    origins: Vec<u64>,
+    destinations: Vec<u64>,
+    addresses: Vec<u64>,
+    values: Vec<u64>,
+    output: Vec<u64>,
+    /// The records of the last step.
+    calls: [u8; STEP_BYTES],
+    /// For replay.
+    opening_ram: Vec<(u64, u64)>,
+}
+
+impl Job {
+    /// Opens a job, or says what is wrong with what it is opened with (numbers 1 to 5).
+    pub fn open(opening: &Opening, sizes: Sizes) -> Result<Job, Refusal> {
+        let (addresses, values) = cells(&opening.ram, sizes.ram);
+        let mut job = Job {
+            registers: [0; register::ALL],
+            opcodes: opening.program.iter().map(|slot| slot.opcode).collect(),
+            arguments: opening.program.iter().map(|slot| slot.argument).collect(),
+            public: opening.public_input.clone(),
+            secret: opening.secret_input.clone(),
+            digests: opening.secret_digests.concat(),
+            op_stack: zeros(sizes.op_stack),
+            origins: zeros(sizes.jump_stack),
+            destinations: zeros(sizes.jump_stack),
+            addresses,
+            values,
+            output: zeros(sizes.output),
+            calls: [0; STEP_BYTES],
+            opening_ram: opening.ram.clone(),
+        };
+        let mut answer = [0; answer::ALL];
+        let (registers, code, memory, _) = job.parts();
+        exports::open(registers, &mut answer, &opening.digest, opening.ram.len() as u64, code, memory);
+        match ran(&answer).ending {
+            Ending::Refused(refusal) => Err(refusal),
+            _ => Ok(job),
+        }
+    }
+
+    /// One step, and the records of its calls ([`records`](crate::records) reads them).
+    pub fn step(&mut self) -> Result<&[u8], Refusal> {
+        let mut answer = [0; answer::ALL];
+        let (registers, code, memory, calls) = self.parts();
+        exports::step(registers, &mut answer, code, memory, calls);
+        let ran = ran(&answer);
+        match ran.ending {
+            Ending::Refused(refusal) => Err(refusal),
+            _ => Ok(&self.calls[..ran.bytes]),
+        }
+    }
+
+    /// At most so many steps, without records.
+    pub fn run(&mut self, budget: u64) -> Ran {
+        let mut answer = [0; answer::ALL];
+        let (registers, code, memory, _) = self.parts();
+        exports::run(registers, &mut answer, budget, code, memory);
+        ran(&answer)
+    }
+
+    /// At most so many steps, with the records of their calls joined at the start of the log. A log of up to 16,777,216 bytes
+    /// is taken; where it gets full the job can go on with an empty one.
+    pub fn trace_execution(&mut self, budget: u64, log: &mut [u8]) -> Ran {
+        let mut answer = [0; answer::ALL];
+        let (registers, code, memory, _) = self.parts();
+        exports::trace_execution(registers, &mut answer, budget, code, memory, log);
+        ran(&answer)
+    }
+
+    /// The helper variables of the next step.
+    pub fn helper_variables(&self) -> Result<[u64; 6], Refusal> {
+        let mut helpers = [0; 6];
+        let Job { opcodes, arguments, public, secret, digests, op_stack, origins, destinations, .. } = self;
+        let Job { addresses, values, output, .. } = self;
+        let code = Code { opcodes, arguments, public, secret, digests };
+        let memory = MemoryView { op_stack, origins, destinations, addresses, values, output };
+        match exports::helper_variables(&self.registers, &mut helpers, code, memory) {
+            0 => Ok(helpers),
+            number => Err(refusal(number, [0; 3])),
+        }
+    }
+
+    /// Replays a log of this job from its opening RAM: what its step before `clock` left (the opening for 0). As much is lent
+    /// as to the job itself. The job stays as it is.
+    pub fn replay(&self, log: &[u8], clock: u64) -> Result<Replayed, Refusal> {
+        replay(log, clock, &self.opening_ram, self.addresses.len(), self.op_stack.len())
+    }
+
+    fn parts(&mut self) -> (&mut [u64], Code<'_>, Memory<'_>, &mut [u8]) {
+        let Job { opcodes, arguments, public, secret, digests, op_stack, origins, destinations, .. } = self;
+        let code = Code { opcodes, arguments, public, secret, digests };
+        let Job { addresses, values, output, registers, calls, .. } = self;
+        (registers, code, Memory { op_stack, origins, destinations, addresses, values, output }, calls)
+    }
+}
+
+/// What the job's state is.
+impl Job {
+    /// The steps taken since the opening.
+    pub fn clock(&self) -> u64 {
+        self.registers[register::CLOCK]
+    }
+
+    pub fn instruction_pointer(&self) -> u64 {
+        self.registers[register::POINTER]
+    }
+
+    pub fn is_halted(&self) -> bool {
+        self.registers[register::HALTED] == 1
+    }
+
+    /// The used words, the top one last.
+    pub fn op_stack(&self) -> &[u64] {
+        &self.op_stack[..self.count(register::DEPTH)]
+    }
+
+    /// Origin and destination, the top one last.
+    pub fn jump_stack(&self) -> impl ExactSizeIterator<Item = (u64, u64)> + '_ {
+        pairs(&self.origins, &self.destinations, self.count(register::JUMPS))
+    }
+
+    /// Address and value of the used cells, in the order in which they came to be used.
+    pub fn ram(&self) -> impl ExactSizeIterator<Item = (u64, u64)> + '_ {
+        pairs(&self.addresses, &self.values, self.count(register::CELLS))
+    }
+
+    pub fn output(&self) -> &[u64] {
+        &self.output[..self.count(register::OUTPUTS)]
+    }
+
+    /// How many words of public and secret input and how many secret digests were taken.
+    pub fn taken(&self) -> [usize; 3] {
+        [register::PUBLICS, register::SECRETS, register::DIGESTS].map(|place| self.count(place))
+    }
+
+    /// None before sponge_init.
+    pub fn sponge(&self) -> Option<[u64; 16]> {
+        let words = || std::array::from_fn(|i| self.registers[register::SPONGE + i]);
+        (self.registers[register::SPONGE_SET] == 1).then(words)
+    }
+
+    fn count(&self, place: usize) -> usize {
+        self.registers[place] as usize
+    }
+}
+
+/// The registers; the rest is long.
+impl Debug for Job {
+    fn fmt(&self, f: &mut Formatter) -> Formatted {
+        f.debug_struct("Job")
+            .field("clock", &self.clock())
+            .field("instruction_pointer", &self.instruction_pointer())
+            .field("depth", &self.op_stack().len())
+            .field("is_halted", &self.is_halted())
+            .finish_non_exhaustive()
+    }
+}
+
+/// Slices over the limit are refused, so that no more than one element over it needs to be there.
+pub(crate) fn zeros(length: usize) -> Vec<u64> {
+    vec![0; length.min(LONGEST + 1)]
+}
+
+/// So many cells, with those given at the start.
+pub(crate) fn cells(given: &[(u64, u64)], length: usize) -> (Vec<u64>, Vec<u64>) {
+    let (mut addresses, mut values) = (zeros(length), zeros(length));
+    let lent = addresses.iter_mut().zip(&mut values);
+    lent.zip(given).for_each(|((address, value), cell)| (*address, *value) = *cell);
+    (addresses, values)
+}
+
+pub(crate) fn pairs<'a>(left: &'a [u64], right: &'a [u64], n: usize) -> impl ExactSizeIterator<Item = (u64, u64)> + 'a {
+    left[..n].iter().copied().zip(right[..n].iter().copied())
+}
+
+pub(crate) fn refusal(number: u64, words: [u64; 3]) -> Refusal {
+    Refusal::new(number, words).unwrap_or_else(|| panic!("the library gave {number}, which is no refusal's number"))
+}
+
+fn ran(answer: &[u64; answer::ALL]) -> Ran {
+    let words = [0, 1, 2].map(|i| answer[answer::WORDS + i]);
+    let ending = match answer[answer::ENDING] {
+        ending::DONE => Ending::Halted,
+        ending::SPENT => Ending::Spent,
+        ending::FULL => Ending::LogFull,
+        _ => Ending::Refused(refusal(answer[answer::NUMBER], words)),
+    };
+    Ran { ending, steps: answer[answer::STEPS], bytes: answer[answer::BYTES] as usize }
+}

@@ -1,0 +1,287 @@
+//! Why a call is turned down: document 01's numbers under their names.
+use std::error::Error;
+use std::fmt::{Display, Formatter, Result};
+
+/// Why a call was turned down. The names of 10 to 23 are those of the original Rust's errors; `Display` says what was wanted
+/// and, where the refusal carries it, what was found.
+///
+/// ```
+/// use kixombu::Refusal;
+///
+/// let refusal = Refusal::AssertionFailed { expected: 1, actual: 2 };
+/// assert_eq!(refusal.number(), 18);
+/// assert_eq!(refusal.words(), [1, 2, 0]);
+/// assert_eq!(refusal.to_string(), "AssertionFailed (18): assert needs 1 on top of the stack, found 2");
+/// ```
+#[derive(Clone, Copy, Debug, PartialEq, Eq, Hash)]
+pub enum Refusal {
+    /// 1, place A: a slice over the limit or of a length that does not fit.
+    BadShape,
+    /// 2, place A: a number that is no word.
+    NotAWord,
+    /// 3, place A.
+    UnknownOpcode,
+    /// 4, place A: an argument that its instruction does not take.
+    BadArgument,
+    /// 5, place A: a count outside its slice, an unused word that is not 0, an address twice.
+    BadState,
+
+    /// 10.
+    MachineHalted,
+    /// 11: also of skiz with nothing behind it, which has dropped its word.
+    InstructionPointerOverflow,
+    /// 12.
+    OpStackTooShallow,
+
+    /// 13: the word that is no u32.
+    FailedU32Conversion(u64),
+    /// 14: how many words are left.
+    EmptyPublicInput(u64),
+    /// 15: how many words are left.
+    EmptySecretInput(u64),
+    /// 16.
+    EmptySecretDigestInput,
+    /// 17.
+    JumpStackIsEmpty,
+    /// 18.
+    AssertionFailed { expected: u64, actual: u64 },
+    /// 19: the index, its word, and the word five places below.
+    VectorAssertionFailed { index: u64, expected: u64, actual: u64 },
+    /// 20.
+    InverseOfZero,
+    /// 21.
+    DivisionByZero,
+    /// 22.
+    LogarithmOfZero,
+    /// 23.
+    SpongeNotInitialized,
+
+    /// 30.
+    OpStackFull,
+    /// 31.
+    JumpStackFull,
+    /// 32.
+    RamFull,
+    /// 33.
+    OutputFull,
+    /// 34.
+    ClockAtEnd,
+
+    /// 40, replay: a record cut short, of an unknown kind or another length, with a bad direction or a number that is no word.
+    RecordBroken,
+    /// 41, replay.
+    ClockFalls,
+    /// 42, replay: a stack record whose pointer does not go with the depth.
+    PointerDiffers,
+    /// 43, replay: a read whose value is not the one held there.
+    ReadDiffers,
+    /// 44, replay: no word or cell left for a write.
+    SliceFull,
+
+    /// 50: no call's; a job file that is broken.
+    JobFileBroken,
+}
+
+use Refusal::*;
+
+impl Refusal {
+    /// The refusal of a number and the three words that come with it; none for 0 and numbers that no call gives.
+    pub fn new(number: u64, words: [u64; 3]) -> Option<Refusal> {
+        Some(match number {
+            1 => BadShape,
+            2 => NotAWord,
+            3 => UnknownOpcode,
+            4 => BadArgument,
+            5 => BadState,
+            10 => MachineHalted,
+            11 => InstructionPointerOverflow,
+            12 => OpStackTooShallow,
+            13 => FailedU32Conversion(words[0]),
+            14 => EmptyPublicInput(words[0]),
+            15 => EmptySecretInput(words[0]),
+            16 => EmptySecretDigestInput,
+            17 => JumpStackIsEmpty,
+            18 => AssertionFailed { expected: words[0], actual: words[1] },
+            19 => VectorAssertionFailed { index: words[0], expected: words[1], actual: words[2] },
+            20 => InverseOfZero,
+            21 => DivisionByZero,
+            22 => LogarithmOfZero,
+            23 => SpongeNotInitialized,
+            30 => OpStackFull,
+            31 => JumpStackFull,
+            32 => RamFull,
+            33 => OutputFull,
+            34 => ClockAtEnd,
+            40 => RecordBroken,
+            41 => ClockFalls,
+            42 => PointerDiffers,
+            43 => ReadDiffers,
+            44 => SliceFull,
+            50 => JobFileBroken,
+            _ => return None,
+        })
+    }
+
+    /// Document 01's number.
+    pub fn number(self) -> u64 {
+        match self {
+            BadShape => 1,
+            NotAWord => 2,
+            UnknownOpcode => 3,
+            BadArgument => 4,
+            BadState => 5,
+            MachineHalted => 10,
+            InstructionPointerOverflow => 11,
+            OpStackTooShallow => 12,
+            FailedU32Conversion(_) => 13,
+            EmptyPublicInput(_) => 14,
+            EmptySecretInput(_) => 15,
+            EmptySecretDigestInput => 16,
+            JumpStackIsEmpty => 17,
+            AssertionFailed { .. } => 18,
+            VectorAssertionFailed { .. } => 19,
+            InverseOfZero => 20,
+            DivisionByZero => 21,
+            LogarithmOfZero => 22,
+            SpongeNotInitialized => 23,
+            OpStackFull => 30,
+            JumpStackFull => 31,
+            RamFull => 32,
+            OutputFull => 33,
+            ClockAtEnd => 34,
+            RecordBroken => 40,
+            ClockFalls => 41,
+            PointerDiffers => 42,
+            ReadDiffers => 43,
+            SliceFull => 44,
+            JobFileBroken => 50,
+        }
+    }
+
+    /// The three words that it carries, zeros where it carries none.
+    pub fn words(self) -> [u64; 3] {
+        match self {
+            FailedU32Conversion(word) => [word, 0, 0],
+            EmptyPublicInput(left) | EmptySecretInput(left) => [left, 0, 0],
+            AssertionFailed { expected, actual } => [expected, actual, 0],
+            VectorAssertionFailed { index, expected, actual } => [index, expected, actual],
+            _ => [0; 3],
+        }
+    }
+
+    /// The name, without the words.
+    pub fn name(self) -> String {
+        let text = format!("{self:?}");
+        text.split(['(', ' ']).next().unwrap_or_default().to_string()
+    }
+}
+
+impl Display for Refusal {
+    fn fmt(&self, f: &mut Formatter) -> Result {
+        write!(f, "{} ({}): ", self.name(), self.number())?;
+        match *self {
+            BadShape => write!(f, "a slice has more than 16,777,216 elements or a length that does not fit"),
+            NotAWord => write!(f, "words must be below 2^64 - 2^32 + 1, found one that is not"),
+            UnknownOpcode => write!(f, "a slot's opcode is no instruction's"),
+            BadArgument => write!(f, "a slot's argument is none that its instruction takes"),
+            BadState => write!(f, "a count outside its slice, an unused word that is not 0, or a RAM address twice"),
+            MachineHalted => write!(f, "the machine has halted and takes no further step"),
+            InstructionPointerOverflow => write!(f, "an instruction is needed, found the program's end"),
+            OpStackTooShallow => write!(f, "the stack must keep sixteen words, the instruction would leave fewer"),
+            FailedU32Conversion(word) => write!(f, "a word below 2^32 is needed, found {word}"),
+            EmptyPublicInput(left) => write!(f, "more public input is needed than the {left} words left"),
+            EmptySecretInput(left) => write!(f, "more secret input is needed than the {left} words left"),
+            EmptySecretDigestInput => write!(f, "a secret digest is needed, found none left"),
+            JumpStackIsEmpty => write!(f, "an entry of the jump stack is needed, found it empty"),
+            AssertionFailed { expected, actual } => {
+                write!(f, "assert needs {expected} on top of the stack, found {actual}")
+            }
+            VectorAssertionFailed { index, expected, actual } => {
+                let below = index.saturating_add(5);
+                write!(f, "assert_vector needs ST{below} equal to ST{index}, which is {expected}, found {actual}")
+            }
+            InverseOfZero => write!(f, "an inverse is needed, found 0, which has none"),
+            DivisionByZero => write!(f, "a divisor other than 0 is needed, found 0"),
+            LogarithmOfZero => write!(f, "a logarithm needs a word other than 0, found 0"),
+            SpongeNotInitialized => write!(f, "sponge_init is needed before the sponge is used"),
+            OpStackFull => write!(f, "the op stack needs more words than were lent"),
+            JumpStackFull => write!(f, "the jump stack needs more entries than were lent"),
+            RamFull => write!(f, "RAM needs more cells than were lent"),
+            OutputFull => write!(f, "the output needs more words than were lent"),
+            ClockAtEnd => write!(f, "the clock is at 4,294,967,295 and goes no further"),
+            RecordBroken => write!(f, "a record is cut short, or its kind, length, direction or a word is not as it must be"),
+            ClockFalls => write!(f, "a record's clock must not be below that of one before it"),
+            PointerDiffers => write!(f, "a stack record's pointer does not go with the depth"),
+            ReadDiffers => write!(f, "a read must have the value held there, found another"),
+            SliceFull => write!(f, "a write needs a word or a cell more than were lent"),
+            JobFileBroken => write!(f, "the job file is broken"),
+        }
+    }
+}
+
+impl Error for Refusal {}
+
+#[cfg(test)]
+mod tests {
+    use super::Refusal;
+
+    /// Document 01's table.
+    const NUMBERS: [u64; 30] =
+        [1, 2, 3, 4, 5, 10, 11, 12, 13, 14, 15, 16, 17, 18, 19, 20, 21, 22, 23, 30, 31, 32, 33, 34, 40, 41, 42, 43, 44, 50];
+
+    #[test]
+    fn numbers_and_words_come_back() {
+        for number in 0..100 {
+            let refusal = Refusal::new(number, [7, 8, 9]);
+            assert_eq!(refusal.is_some(), NUMBERS.contains(&number), "{number}");
+            if let Some(refusal) = refusal {
+                assert_eq!(refusal.number(), number);
+                assert_eq!(Refusal::new(number, refusal.words()), Some(refusal));
+            }
+        }
+        assert_eq!(Refusal::new(u64::MAX, [0; 3]), None);
+    }
+
+    /// Which refusals carry words is document 01's place C.
+    #[test]
+    fn words_are_carried_as_said() {
+        for number in NUMBERS {
+            let carried = match number {
+                13..=15 => [7, 0, 0],
+                18 => [7, 8, 0],
+                19 => [7, 8, 9],
+                _ => [0; 3],
+            };
+            assert_eq!(Refusal::new(number, [7, 8, 9]).unwrap().words(), carried, "{number}");
+        }
+    }
+
+    #[test]
+    fn texts_have_name_number_and_words() {
+        let mut texts = vec![];
+        for number in NUMBERS {
+            let refusal = Refusal::new(number, [7, 8_888, 9_999]).unwrap();
+            let text = refusal.to_string();
+            assert!(text.starts_with(&format!("{} ({number}): ", refusal.name())), "{text}");
+            let behind = text.split(": ").nth(1).unwrap();
+            for word in refusal.words().into_iter().filter(|word| *word != 0) {
+                assert!(behind.contains(&word.to_string()), "{text} has not {word}");
+            }
+            texts.push(behind.to_string());
+        }
+        texts.sort();
+        texts.dedup();
+        assert_eq!(texts.len(), NUMBERS.len(), "two refusals have one text");
+    }
+
+    #[test]
+    fn texts_of_those_with_words() {
+        let text = |number, words| Refusal::new(number, words).unwrap().to_string();
+        assert_eq!(text(13, [1 << 32, 0, 0]), "FailedU32Conversion (13): a word below 2^32 is needed, found 4294967296");
+        assert_eq!(text(14, [2, 0, 0]), "EmptyPublicInput (14): more public input is needed than the 2 words left");
+        assert_eq!(
+            text(19, [1, 12, 13]),
+            "VectorAssertionFailed (19): assert_vector needs ST6 equal to ST1, which is 12, found 13"
+        );
+    }
+}

@@ -1,0 +1,31 @@
+//! A log read back.
+use crate::exports::{self, replayed};
+use crate::job::{cells, pairs, refusal, zeros};
+use crate::Refusal;
+
+/// What a log rebuilt.
+#[derive(Clone, Debug, Default, PartialEq, Eq)]
+pub struct Replayed {
+    /// How many words the stack has.
+    pub depth: u64,
+    /// The stack's words below the top sixteen, the lowest first.
+    pub stack: Vec<u64>,
+    /// Address and value of the used cells, in order.
+    pub ram: Vec<(u64, u64)>,
+}
+
+/// Reads the log up to `clock` from the opening's RAM, with so many cells and stack words lent.
+///
+/// A sound log of a job gives what the job's step before `clock` left; an altered read in it is refused (40 or 43).
+pub fn replay(log: &[u8], clock: u64, ram: &[(u64, u64)], lent_cells: usize, lent_words: usize) -> Result<Replayed, Refusal> {
+    let (mut addresses, mut values) = cells(ram, lent_cells);
+    let mut words = zeros(lent_words);
+    let mut answer = [0; replayed::ALL];
+    let number = exports::replay(&mut answer, log, clock, ram.len() as u64, &mut addresses, &mut values, &mut words);
+    if number != 0 {
+        return Err(refusal(number, [0; 3]));
+    }
+    let depth = answer[replayed::DEPTH];
+    words.truncate(depth as usize - 16);
+    Ok(Replayed { depth, stack: words, ram: pairs(&addresses, &values, answer[replayed::CELLS] as usize).collect() })
+}

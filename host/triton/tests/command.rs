@@ -1,0 +1,188 @@
+//! The command: its verbs, its exit status, what it says.
+mod common;
+
+use common::folder;
+use std::io::Write;
+use std::path::PathBuf;
+use std::process::{Command, Output, Stdio};
+
+/// Runs the command with something on its standard input.
+fn kixombu(words: &[&str], input: &[u8]) -> Output {
+    let mut command = Command::new(env!("CARGO_BIN_EXE_kixombu"));
+    let pipes = command.args(words).stdin(Stdio::piped()).stdout(Stdio::piped()).stderr(Stdio::piped());
+    let mut process = pipes.spawn().unwrap();
+    // the command may end before it has read everything
+    let _ = process.stdin.take().unwrap().write_all(input);
+    process.wait_with_output().unwrap()
+}
+
+fn text(bytes: &[u8]) -> String {
+    String::from_utf8(bytes.to_vec()).unwrap()
+}
+
+#[track_caller]
+fn ends(output: &Output, status: i32, said: &str) {
+    assert_eq!(text(&output.stderr), said);
+    assert_eq!(output.status.code(), Some(status));
+}
+
+/// A file of its own in the temporary folder, removed with it.
+struct Temporary(PathBuf);
+
+impl Temporary {
+    fn new(name: &str) -> Temporary {
+        Temporary(std::env::temp_dir().join(format!("kixombu-{}-{name}", std::process::id())))
+    }
+
+    fn name(&self) -> &str {
+        self.0.to_str().unwrap()
+    }
+}
+
+impl Drop for Temporary {
+    fn drop(&mut self) {
+        let _ = std::fs::remove_file(&self.0);
+    }
+}
+
+fn job(name: &str) -> String {
+    folder().join(name).to_str().unwrap().to_string()
+}
+
+#[test]
+fn make_and_run() {
+    let made = Temporary::new("made.job");
+    let output = kixombu(&["make", &job("countdown.txt"), made.name()], b"");
+    ends(&output, 0, "");
+    assert_eq!(std::fs::read(&made.0).unwrap(), std::fs::read(job("countdown.job")).unwrap());
+    let output = kixombu(&["make", "-"], b"digest 1 2 3 4 5; push 3; push 4; add; write_io 1; halt");
+    ends(&output, 0, "");
+    assert_eq!(output.stdout, std::fs::read(job("add.job")).unwrap());
+    let output = kixombu(&["run", "-"], &output.stdout);
+    ends(&output, 0, "");
+    assert_eq!(output.stdout, std::fs::read(job("add.out")).unwrap());
+}
+
+#[test]
+fn bad_texts_are_named() {
+    let output = kixombu(&["make", "-"], b"digest 1 2 3 4 5\npush 1; psh 2");
+    ends(&output, 1, "kixombu: -: line 2, `psh`: no item or instruction has this name\n");
+    assert_eq!(output.stdout, b"");
+    let output = kixombu(&["make", "-"], b"digest 1 2 3 4 5; pop 9");
+    ends(&output, 0, "kixombu: warning: -: line 1, `9`: pop does not take this argument; open refuses it with 4\n");
+    let output = kixombu(&["run", "-"], &output.stdout);
+    ends(&output, 1, "kixombu: -: BadArgument (4): a slot's argument is none that its instruction takes\n");
+    assert_eq!(text(&output.stdout), "end refused 4 0 0 0\n");
+    ends(&kixombu(&["make", "-"], &[0xff]), 1, "kixombu: -: the text is not UTF-8\n");
+}
+
+#[test]
+fn broken_files_are_explained() {
+    let output = kixombu(&["run", &job("broken.job")], b"");
+    let said = "JobFileBroken (50): the job file is broken, byte 86: a record begins with four bytes, found 3";
+    ends(&output, 1, &format!("kixombu: {}: {said}\n", job("broken.job")));
+    assert_eq!(text(&output.stdout), "end refused 50 0 0 0\n");
+}
+
+#[test]
+fn record_show_and_replay() {
+    let log = Temporary::new("memory.log");
+    let output = kixombu(&["record", &job("memory.job"), log.name()], b"");
+    let listing = text(&std::fs::read(job("memory.out")).unwrap());
+    let steps = listing.lines().last().unwrap().split(' ').nth(2).unwrap();
+    let bytes = std::fs::metadata(&log.0).unwrap().len();
+    ends(&output, 0, &format!("kixombu: {steps} steps, {bytes} bytes; halted\n"));
+
+    // the stack lines are the listing's; every record has its line
+    let output = kixombu(&["show", log.name()], b"");
+    ends(&output, 0, "");
+    let shown = text(&output.stdout);
+    let stack = |text: &str| text.lines().filter(|line| line.starts_with("stack ")).map(str::to_string).collect::<Vec<_>>();
+    assert_eq!(stack(&shown), stack(&listing));
+    assert!(shown.contains("ram 1 10 read 99\n"), "{shown}");
+    assert_eq!(shown.lines().count() as u64 * 25, bytes);
+
+    let replay = |clock: &str| kixombu(&["replay", &job("memory.job"), log.name(), clock], b"");
+    let output = replay("0");
+    ends(&output, 0, "");
+    assert_eq!(text(&output.stdout), "depth 16\ncells 2\nram 10 99\nram 11 18446744069414584320\n");
+    let output = replay("7");
+    ends(&output, 0, "");
+    let expected = "depth 17\ncells 3\nstack 16 5\nram 10 99\nram 11 18446744069414584320\nram 20 7\n";
+    assert_eq!(text(&output.stdout), expected);
+
+    // the read of cell 10 altered
+    let mut altered = std::fs::read(&log.0).unwrap();
+    let place = shown.lines().position(|line| line == "ram 1 10 read 99").unwrap();
+    altered[place * 25 + 16] += 1;
+    std::fs::write(&log.0, &altered).unwrap();
+    let output = replay("7");
+    let said = "ReadDiffers (43): a read must have the value held there, found another";
+    ends(&output, 1, &format!("kixombu: {} to clock 7: {said}\n", log.name()));
+    assert_eq!(output.stdout, b"");
+    ends(&replay("1"), 0, "");
+
+    // a byte short
+    altered.pop();
+    std::fs::write(&log.0, &altered).unwrap();
+    let output = kixombu(&["show", log.name()], b"");
+    let at = altered.len() - 24;
+    ends(&output, 1, &format!("kixombu: {}: byte {at}: a record of kind 4 is cut short by 1 bytes\n", log.name()));
+    assert_eq!(text(&output.stdout).lines().count(), shown.lines().count() - 1);
+}
+
+#[test]
+fn record_says_how_the_job_ended() {
+    let log = Temporary::new("ended.log");
+    let output = kixombu(&["record", &job("assert.job"), log.name()], b"");
+    let said = "refused: AssertionFailed (18): assert needs 1 on top of the stack, found 2";
+    ends(&output, 1, &format!("kixombu: 3 steps, 75 bytes; {said}\n"));
+    let output = kixombu(&["record", &job("spent.job"), log.name()], b"");
+    assert_eq!(output.status.code(), Some(3));
+    assert!(text(&output.stderr).contains("; its budget is spent\n"));
+    let output = kixombu(&["record", &job("not_a_word.job"), log.name()], b"");
+    assert_eq!(output.status.code(), Some(1));
+    assert!(text(&output.stderr).contains("NotAWord (2)"));
+}
+
+#[test]
+fn usage() {
+    let output = kixombu(&["--help"], b"");
+    ends(&output, 0, "");
+    ["make TEXT", "run JOB", "record JOB LOG", "replay JOB LOG CLOCK", "show LOG", "Exit status"]
+        .iter()
+        .for_each(|part| assert!(text(&output.stdout).contains(part), "{part}"));
+    assert_eq!(text(&kixombu(&["--version"], b"").stdout), "kixombu 0.1.0\n");
+    ends(&kixombu(&["jump"], b""), 2, "kixombu: jump: no such verb; see kixombu --help\n");
+    ends(&kixombu(&["run"], b""), 2, "kixombu: run: these are not its files; see kixombu --help\n");
+    ends(&kixombu(&["replay", "a", "b", "c"], b""), 2, "kixombu: c: a clock is a number; see kixombu --help\n");
+    assert_eq!(kixombu(&[], b"").status.code(), Some(2));
+    let output = kixombu(&["run", "/nowhere/a.job"], b"");
+    ends(&output, 2, "kixombu: /nowhere/a.job: No such file or directory (os error 2)\n");
+}
+
+/// Progress is shown of a run that takes over a second, and of no other.
+#[test]
+fn progress_of_long_runs() {
+    let endless = kixombu(&["make", "-"], b"digest 1 2 3 4 5; budget 4294967295; f: call f").stdout;
+    let job = Temporary::new("endless.job");
+    std::fs::write(&job.0, endless).unwrap();
+    let mut command = Command::new(env!("CARGO_BIN_EXE_kixombu"));
+    let output = command.args(["run", job.name()]).output().unwrap();
+    // 1,024 entries of the jump stack are soon used up
+    let said = "JumpStackFull (31): the jump stack needs more entries than were lent";
+    ends(&output, 1, &format!("kixombu: {}: {said}\n", job.name()));
+    assert_eq!(text(&output.stdout), "end refused 31 1024 0 16\n");
+
+    // some ten seconds, of which the first line is waited for
+    let long = kixombu(&["make", "-"], b"digest 1 2 3 4 5; budget 1000000000; call f; f: recurse").stdout;
+    std::fs::write(&job.0, long).unwrap();
+    let mut command = Command::new(env!("CARGO_BIN_EXE_kixombu"));
+    let mut process = command.args(["run", job.name()]).stdout(Stdio::null()).stderr(Stdio::piped()).spawn().unwrap();
+    let mut line = String::new();
+    let mut reader = std::io::BufReader::new(process.stderr.take().unwrap());
+    std::io::BufRead::read_line(&mut reader, &mut line).unwrap();
+    process.kill().unwrap();
+    process.wait().unwrap();
+    assert!(line.starts_with("kixombu: ") && line.contains(" of at most 1000000000 steps, "), "{line}");
+}

@@ -1,0 +1,181 @@
+//! The safe calls: what they give, what they refuse, and that a refusal leaves the job as it was.
+mod common;
+
+use common::open;
+use kixombu::text::make;
+use kixombu::{records, Ending, Job, JobFile, Opening, Record, Refusal, Sizes, Slot, LONGEST, P};
+
+fn opening(text: &str) -> Opening {
+    JobFile::read(&make(text).unwrap().file).unwrap().opening
+}
+
+#[test]
+fn open_refuses_by_number() {
+    let sound = opening("digest 1 2 3 4 5; ram 7 8; halt");
+    let small = Sizes { op_stack: 16, jump_stack: 0, ram: 1, output: 0 };
+    assert!(Job::open(&sound, small).is_ok());
+    let number = |opening: &Opening, sizes| Job::open(opening, sizes).map(|_| ()).unwrap_err();
+    assert_eq!(number(&sound, Sizes { op_stack: 15, ..small }), Refusal::BadShape);
+    assert_eq!(number(&sound, Sizes { output: usize::MAX, ..small }), Refusal::BadShape);
+    assert_eq!(number(&sound, Sizes { jump_stack: LONGEST + 1, ..small }), Refusal::BadShape);
+    assert_eq!(number(&Opening { digest: [0, 0, 0, 0, P], ..sound.clone() }, small), Refusal::NotAWord);
+    let program = vec![Slot { opcode: 5, argument: 0 }];
+    assert_eq!(number(&Opening { program, ..sound.clone() }, small), Refusal::UnknownOpcode);
+    let program = vec![Slot { opcode: 0, argument: 1 }];
+    assert_eq!(number(&Opening { program, ..sound.clone() }, small), Refusal::BadArgument);
+    assert_eq!(number(&sound, Sizes { ram: 0, ..small }), Refusal::BadState);
+    let ram = vec![(7, 8), (7, 8)];
+    assert_eq!(number(&Opening { ram, ..sound }, Sizes { ram: 2, ..small }), Refusal::BadState);
+}
+
+#[test]
+fn an_opened_job_is_as_said() {
+    let job = open("digest 1 2 3 4 5; ram 10 99; ram 11 98; halt");
+    assert_eq!(job.op_stack(), [5, 4, 3, 2, 1, 0, 0, 0, 0, 0, 0, 0, 0, 0, 0, 0]);
+    assert_eq!(job.ram().collect::<Vec<_>>(), [(10, 99), (11, 98)]);
+    assert_eq!((job.clock(), job.instruction_pointer(), job.is_halted()), (0, 0, false));
+    assert_eq!((job.output(), job.jump_stack().len(), job.taken(), job.sponge()), (&[][..], 0, [0; 3], None));
+}
+
+/// Each refusal of a step that carries words, with the words.
+#[test]
+fn refusals_carry_their_words() {
+    let refused = |text: &str| {
+        let mut job = open(&format!("digest 1 2 3 4 5; public 7; secret 8; secret 9; {text}"));
+        match job.run(100).ending {
+            Ending::Refused(refusal) => refusal,
+            other => panic!("{text}: {other:?}"),
+        }
+    };
+    assert_eq!(refused("push 4294967296; pop_count"), Refusal::FailedU32Conversion(1 << 32));
+    assert_eq!(refused("read_io 2"), Refusal::EmptyPublicInput(1));
+    assert_eq!(refused("divine 3"), Refusal::EmptySecretInput(2));
+    assert_eq!(refused("push 2; assert"), Refusal::AssertionFailed { expected: 1, actual: 2 });
+    let vectors = "push 5; push 4; push 3; push 12; push 1; push 5; push 4; push 3; push 2; push 1; assert_vector";
+    assert_eq!(refused(vectors), Refusal::VectorAssertionFailed { index: 1, expected: 2, actual: 12 });
+    assert_eq!(refused("return"), Refusal::JumpStackIsEmpty);
+    assert_eq!(refused("merkle_step"), Refusal::EmptySecretDigestInput);
+    assert_eq!(refused("push 0; invert"), Refusal::InverseOfZero);
+    assert_eq!(refused("sponge_squeeze"), Refusal::SpongeNotInitialized);
+    assert_eq!(refused("pop 1"), Refusal::OpStackTooShallow);
+    assert_eq!(refused("nop"), Refusal::InstructionPointerOverflow);
+}
+
+#[test]
+fn a_refused_step_changes_nothing_but_skiz_drops() {
+    let mut job = open("digest 1 2 3 4 5; push 2; assert");
+    assert!(job.step().is_ok());
+    let before = (job.op_stack().to_vec(), job.clock());
+    assert!(job.step().is_err());
+    assert_eq!((job.op_stack().to_vec(), job.clock()), before);
+    let mut job = open("digest 1 2 3 4 5; push 0; skiz");
+    assert!(job.step().is_ok());
+    assert_eq!(job.step(), Err(Refusal::InstructionPointerOverflow));
+    assert_eq!((job.op_stack().len(), job.clock()), (16, 1));
+}
+
+#[test]
+fn limits_are_those_lent() {
+    let sizes = Sizes { op_stack: 17, jump_stack: 1, ram: 1, output: 1 };
+    let refused = |text: &str| {
+        let mut job = Job::open(&opening(&format!("digest 1 2 3 4 5; {text}")), sizes).unwrap();
+        job.run(100).ending
+    };
+    assert_eq!(refused("push 1; push 1"), Ending::Refused(Refusal::OpStackFull));
+    assert_eq!(refused("f: call f"), Ending::Refused(Refusal::JumpStackFull));
+    assert_eq!(refused("push 1; write_mem 1; write_mem 1"), Ending::Refused(Refusal::OpStackTooShallow));
+    assert_eq!(refused("write_io 1"), Ending::Refused(Refusal::OpStackTooShallow));
+    assert_eq!(refused("push 1; write_io 1; push 1; write_io 1"), Ending::Refused(Refusal::OutputFull));
+    assert_eq!(refused("push 1; write_mem 1; push 9; write_mem 1"), Ending::Refused(Refusal::RamFull));
+}
+
+#[test]
+fn budget_and_log_end_a_run() {
+    let mut job = open("digest 1 2 3 4 5; f: push 1; pop 1; call f");
+    assert_eq!(job.run(7).ending, Ending::Spent);
+    assert_eq!((job.run(0).steps, job.clock()), (0, 7));
+    let ran = job.trace_execution(1_000, &mut [0; 1023]);
+    assert_eq!((ran.ending, ran.steps, ran.bytes), (Ending::LogFull, 0, 0));
+    let mut log = [0; 1024 + 25];
+    let ran = job.trace_execution(1_000, &mut log);
+    assert_eq!(ran.ending, Ending::LogFull);
+    assert!(ran.steps > 1 && ran.bytes > 25, "{ran:?}");
+    let mut long = vec![0; LONGEST + 1];
+    assert_eq!(job.trace_execution(1, &mut long).ending, Ending::Refused(Refusal::BadShape));
+}
+
+#[test]
+fn helper_variables_follow_the_next_instruction() {
+    let mut job = open("digest 1 2 3 4 5; push 6; split; halt");
+    assert!(job.step().is_ok());
+    // split's: the inverse of the high half less 2^32 - 1, here of 1 - 2^32
+    let helpers = job.helper_variables().unwrap();
+    let inverse = (helpers[0] as u128 * (P - 0xffff_ffff) as u128 % P as u128) as u64;
+    assert_eq!((inverse, &helpers[1..]), (1, &[0; 5][..]));
+}
+
+const REPLAYED: &str = "digest 9 8 7 6 5; ram 10 99; ram 11 -1
+    push 3; push 4; push 10; read_mem 2; pop 1; push 20; write_mem 3; pop 1; push 20; read_mem 1; pop 2; halt";
+
+/// The log, and the job after each step, the opening first.
+fn recorded(text: &str) -> (Vec<u8>, Vec<Job>) {
+    let mut jobs = vec![open(text)];
+    let mut log = vec![];
+    loop {
+        let mut job = jobs.last().unwrap().clone();
+        match job.step() {
+            Ok(bytes) => log.extend_from_slice(bytes),
+            Err(_) => return (log, jobs),
+        }
+        jobs.push(job);
+    }
+}
+
+#[test]
+fn replay_rebuilds_every_clock() {
+    let (log, jobs) = recorded(REPLAYED);
+    assert!(jobs.len() > 10 && jobs.last().unwrap().is_halted());
+    for (clock, job) in jobs.iter().enumerate() {
+        let replayed = jobs[0].replay(&log, clock as u64).unwrap();
+        let depth = job.op_stack().len();
+        assert_eq!(replayed.depth, depth as u64, "{clock}");
+        assert_eq!(replayed.stack, job.op_stack()[..depth - 16], "{clock}");
+        assert_eq!(replayed.ram, job.ram().collect::<Vec<_>>(), "{clock}");
+    }
+    assert_eq!(jobs[0].replay(&log, u64::MAX), jobs[0].replay(&log, jobs.len() as u64));
+}
+
+#[test]
+fn replay_refuses_an_altered_read() {
+    let (log, jobs) = recorded(REPLAYED);
+    let all: Vec<Record> = records(&log).map(Result::unwrap).collect();
+    let mut reads = 0;
+    for place in 0..all.len() {
+        for (other, refusal) in [(12_345, Refusal::ReadDiffers), (P, Refusal::RecordBroken)] {
+            let mut altered = all.clone();
+            match &mut altered[place] {
+                Record::Stack { write: false, value, .. } | Record::Ram { write: false, value, .. } => *value = other,
+                _ => continue,
+            }
+            reads += 1;
+            assert_eq!(jobs[0].replay(&kixombu::bytes_of(&altered), u64::MAX), Err(refusal), "{place}");
+        }
+    }
+    assert!(reads >= 10, "{reads}");
+}
+
+#[test]
+fn replay_refuses_by_number() {
+    let write = |clock, pointer| Record::Stack { clock, pointer, write: true, value: 1 };
+    let replay = |records: &[Record], ram: &[(u64, u64)], cells, words| {
+        kixombu::replay(&kixombu::bytes_of(records), u64::MAX, ram, cells, words).map(|replayed| replayed.depth)
+    };
+    assert_eq!(replay(&[write(0, 16), write(0, 17)], &[], 0, 2), Ok(18));
+    assert_eq!(replay(&[write(0, 16), write(0, 17)], &[], 0, 1), Err(Refusal::SliceFull));
+    assert_eq!(replay(&[write(0, 17)], &[], 0, 2), Err(Refusal::PointerDiffers));
+    assert_eq!(replay(&[write(1, 16), write(0, 17)], &[], 0, 2), Err(Refusal::ClockFalls));
+    assert_eq!(replay(&[], &[(1, 2)], 0, 0), Err(Refusal::BadState));
+    assert_eq!(replay(&[], &[(1, P)], 1, 0), Err(Refusal::NotAWord));
+    assert_eq!(replay(&[], &[], LONGEST + 1, 0), Err(Refusal::BadShape));
+    assert_eq!(kixombu::replay(&[0], 0, &[], 0, 0), Err(Refusal::RecordBroken));
+}

@@ -1,0 +1,58 @@
+//! Job files that are broken, each reason of document 01's number 50 once, and where.
+use kixombu::frame::put;
+use kixombu::JobFile;
+
+fn file(records: &[(u16, usize)]) -> Vec<u8> {
+    let mut file = vec![];
+    records.iter().for_each(|&(kind, length)| put(&mut file, kind, &[&vec![0; length]]));
+    file
+}
+
+fn fault(file: &[u8]) -> String {
+    JobFile::read(file).map_or_else(|fault| fault.to_string(), |_| "sound".to_string())
+}
+
+const DIGEST: (u16, usize) = (11, 40);
+
+#[test]
+fn broken_files() {
+    for (records, expected) in [
+        (&[DIGEST][..], "sound"),
+        (&[], "byte 0: the file is empty, a digest is needed"),
+        (&[(12, 10)], "byte 0: the first record, and no other, is the digest, of kind 11"),
+        (&[DIGEST, DIGEST], "byte 44: the first record, and no other, is the digest, of kind 11"),
+        (&[DIGEST, (17, 4), (13, 8), (14, 8), (15, 40), (16, 16), (12, 10)], "sound"),
+        (&[DIGEST, (17, 4), (17, 4)], "byte 52: a second budget"),
+        (&[DIGEST, (18, 8)], "byte 44: 18 is no record's kind"),
+        (&[DIGEST, (10, 8)], "byte 44: 10 is no record's kind"),
+        (&[DIGEST, (13, 9)], "byte 44: a record of kind 13 has length 10, found 11"),
+    ] {
+        assert_eq!(fault(&file(records)), expected);
+    }
+}
+
+#[test]
+fn each_cut_is_seen() {
+    let whole = file(&[DIGEST, (12, 10), (17, 4)]);
+    for length in 0..=whole.len() {
+        assert_eq!(JobFile::read(&whole[..length]).is_ok(), [44, 58, 66].contains(&length), "{length}");
+    }
+    assert_eq!(fault(&whole[..60]), "byte 58: a record begins with four bytes, found 2");
+    assert_eq!(fault(&whole[..65]), "byte 58: a record of kind 17 is cut short by 1 bytes");
+}
+
+#[test]
+fn limits() {
+    let mut records = vec![(12, 10); 1025];
+    records[0] = DIGEST;
+    assert_eq!(fault(&file(&records)), "sound");
+    records.push((12, 10));
+    assert_eq!(fault(&file(&records)), "byte 14380: a program has at most 1024 slots");
+    // 44 + 12 * 5,457 + 8: exactly 65,536 bytes
+    let mut records = vec![(13, 8); 5459];
+    (records[0], records[5458]) = (DIGEST, (17, 4));
+    assert_eq!(file(&records).len(), 65_536);
+    assert_eq!(fault(&file(&records)), "sound");
+    records[5458] = (13, 8);
+    assert_eq!(fault(&file(&records)), "byte 65536: a job file has at most 65536 bytes, found 65540");
+}

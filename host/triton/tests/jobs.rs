@@ -1,0 +1,93 @@
+//! Every job of the folder `jobs`: its file from its text, and its listing.
+mod common;
+
+use common::{folder, names, read};
+use kixombu::text::make;
+use kixombu::{Job, JobFile, Sizes};
+use std::process::{Command, Stdio};
+
+#[test]
+fn texts_make_the_files() {
+    for name in names() {
+        let text = String::from_utf8(read(&name, "txt")).unwrap();
+        let made = make(&text).unwrap_or_else(|fault| panic!("{name}: {fault}"));
+        assert_eq!(made.file, read(&name, "job"), "{name}");
+        assert_eq!(made.warnings.len(), usize::from(name == "not_a_word"), "{name}: {:?}", made.warnings);
+    }
+}
+
+#[test]
+fn files_come_back() {
+    for name in names().into_iter().filter(|name| name != "broken") {
+        let file = JobFile::read(&read(&name, "job")).unwrap();
+        assert_eq!(JobFile::read(&file.write()), Ok(file), "{name}");
+    }
+}
+
+#[test]
+fn listings_are_those_kept() {
+    for name in names() {
+        let job = std::fs::File::open(folder().join(format!("{name}.job"))).unwrap();
+        let mut run = Command::new(env!("CARGO_BIN_EXE_kixombu"));
+        let output = run.args(["run", "-"]).stdin(job).output().unwrap();
+        if folder().join(format!("{name}.out")).exists() {
+            let kept = String::from_utf8(read(&name, "out")).unwrap();
+            assert_eq!(String::from_utf8_lossy(&output.stdout), kept, "{name}");
+        } else {
+            assert_eq!(sum(&output.stdout).as_bytes(), read(&name, "sum"), "{name}");
+        }
+        let last = String::from_utf8(output.stdout).unwrap().lines().last().unwrap().to_string();
+        let status = match last.split(' ').nth(1).unwrap() {
+            "halted" => 0,
+            "refused" => 1,
+            _ => 3,
+        };
+        assert_eq!(output.status.code(), Some(status), "{name}: {last}");
+    }
+}
+
+/// As `sha256sum` prints it.
+fn sum(bytes: &[u8]) -> String {
+    let mut sum = Command::new("sha256sum").stdin(Stdio::piped()).stdout(Stdio::piped()).spawn().expect("sha256sum");
+    std::io::Write::write_all(&mut sum.stdin.take().unwrap(), bytes).unwrap();
+    String::from_utf8(sum.wait_with_output().unwrap().stdout).unwrap()
+}
+
+/// Step by step, in one run and by traces of all lengths, a job comes to the same.
+#[test]
+fn steps_runs_and_traces_agree() {
+    for name in ["add", "countdown", "memory", "sponge", "merkle", "assert", "skiz"] {
+        let file = JobFile::read(&read(name, "job")).unwrap();
+        let opened = Job::open(&file.opening, Sizes::RUNJOB).unwrap();
+        let (mut stepped, mut log) = (opened.clone(), vec![]);
+        let refused = loop {
+            match stepped.step() {
+                Ok(bytes) => log.extend_from_slice(bytes),
+                Err(refusal) => break refusal,
+            }
+        };
+        let steps = stepped.clock();
+        for budget in [0, 1, steps / 2, steps, u64::MAX] {
+            let (mut run, mut traced) = (opened.clone(), opened.clone());
+            let ran = run.run(budget);
+            let mut room = vec![0; log.len() + 1024];
+            let trace = traced.trace_execution(budget, &mut room);
+            assert_eq!((ran.ending, ran.steps, ran.bytes), (trace.ending, trace.steps, 0), "{name}");
+            assert_eq!(ran.steps, budget.min(steps), "{name}");
+            assert!(log.starts_with(&room[..trace.bytes]), "{name}");
+            assert_eq!(state(&run), state(&traced), "{name}");
+            if budget == u64::MAX {
+                assert_eq!(trace.bytes, log.len(), "{name}");
+                let expected = if run.is_halted() { kixombu::Ending::Halted } else { kixombu::Ending::Refused(refused) };
+                assert_eq!(trace.ending, expected, "{name}");
+            }
+        }
+    }
+}
+
+type State = (u64, u64, Vec<u64>, Vec<(u64, u64)>, Vec<(u64, u64)>, Vec<u64>, Option<[u64; 16]>);
+
+fn state(job: &Job) -> State {
+    let words = (job.op_stack().to_vec(), job.jump_stack().collect(), job.ram().collect());
+    (job.clock(), job.instruction_pointer(), words.0, words.1, words.2, job.output().to_vec(), job.sponge())
+}
