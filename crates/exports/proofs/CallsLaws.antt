@@ -5,7 +5,7 @@ use mathlib.Core.List.{List}
 use Prim.Native.Nat.{ℕ}
 use borrow.Author.Tests.{eqb-true}
 use lib.ListN.{length}
-use Rattle.machine.specs.declared.vm.VMState.{VMState}
+use Rattle.machine.specs.declared.state.VMState.{VMState}
 use Rattle.machine.specs.Machine.{Memory}
 use Rattle.exports.specs.declared.report.Report.{Report}
 use Rattle.exports.specs.Registers.{registersOf, Readable}

@@ -3,7 +3,7 @@ use mathlib.Core.Path.{_≡_, sym, ap, _∙_}
 use mathlib.Core.Bool.{Bool, true, false}
 use mathlib.Core.List.{List}
 use Prim.Native.Nat.{ℕ}
-use Rattle.machine.specs.declared.vm.VMState.{VMState}
+use Rattle.machine.specs.declared.state.VMState.{VMState}
 use Rattle.machine.specs.Machine.{Code, Memory, machine}
 use Rattle.machine.specs.HelperVariables.{helperVariablesOf}
 use Rattle.vm.specs.declared.helper_variables.Helped.{Helped as Given}

@@ -6,7 +6,7 @@ use Prim.Native.Nat.{ℕ}
 use borrow.Author.Tests.{eqb-true, eqb-false, ne-eqb}
 use lib.ListN.{length}
 use lib.Dec.{eqb}
-use Rattle.machine.specs.declared.vm.VMState.{VMState}
+use Rattle.machine.specs.declared.state.VMState.{VMState}
 use Rattle.machine.specs.Machine.{Code, Memory, Machine, machine}
 use Rattle.machine.specs.Refusal.{Refusal, plainly}
 use Rattle.machine.specs.Apply.{Outcome, took, kept}

@@ -8,7 +8,7 @@ use borrow.Author.Tests.{eqb-true, ltb-true}
 use lib.ListN.{length, getD, take, drop, replicate, length-drop, drop-of-length-le}
 use lib.Seq.{paste, drop-cons, take-all, take-at, length-paste}
 use lib.Dec.{eqb}
-use Rattle.machine.specs.declared.vm.VMState.{VMState}
+use Rattle.machine.specs.declared.state.VMState.{VMState}
 use Rattle.machine.specs.Choice.{cond}
 use Rattle.exports.specs.Registers.{mark, registersOf, stateOf, Readable, readableOf}
 

@@ -4,7 +4,7 @@ use mathlib.Core.Bool.{Bool, false}
 use mathlib.Core.List.{List}
 use lib.ListN.{length}
 use lib.Dec.{eqb}
-use Rattle.machine.specs.declared.vm.VMState.{VMState}
+use Rattle.machine.specs.declared.state.VMState.{VMState}
 use Rattle.machine.specs.Choice.{cond}
 use Rattle.machine.specs.Machine.{Memory}
 use Rattle.exports.specs.declared.report.Report.{Report}

@@ -5,7 +5,7 @@ use mathlib.Core.Bool.{Bool, false}
 use mathlib.Core.List.{List, _∷_}
 use lib.ListN.{length, getD, drop}
 use lib.Dec.{eqb, ltb}
-use Rattle.machine.specs.declared.vm.VMState.{VMState}
+use Rattle.machine.specs.declared.state.VMState.{VMState}
 use Rattle.machine.specs.Choice.{cond}
 
 -- a mark as a word

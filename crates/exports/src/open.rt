@@ -8,7 +8,7 @@ use crate::registers::write_registers;
 use crate::report::open_report;
 use crate::report::turn_down;
 use crate::report::write_answer;
-use machine::vm::VMState;
+use machine::state::VMState;
 use tip5::words::copy;
 use vm::open::open;
 

@@ -2,7 +2,7 @@
 ghost use mathlib.Core.Path.{_≡_};
 ghost use lib.ListN.{length};
 ghost use Rattle.exports.specs.Registers.{mark, registersOf, stateOf, Readable, readableOf};
-use machine::vm::VMState;
+use machine::state::VMState;
 use tip5::sponge::Sponge;
 use tip5::words::copy;
 

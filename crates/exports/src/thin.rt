@@ -4,7 +4,7 @@ ghost use Rattle.machine.specs.Machine.{code, memory};
 ghost use Rattle.exports.specs.ThinCall.{stateIn, registersIn, thinly, thinCall};
 use crate::report::step_report;
 use crate::report::write_answer;
-use machine::vm::VMState;
+use machine::state::VMState;
 use tip5::sponge::Sponge;
 use vm::step::step;
 

@@ -8,7 +8,7 @@ use borrow.Author.Tests.{eqb-true}
 use lib.ListN.{length}
 use lib.Dec.{eqb}
 use Rattle.tip5.specs.declared.sponge.Sponge.{Sponge}
-use Rattle.machine.specs.declared.vm.VMState.{VMState}
+use Rattle.machine.specs.declared.state.VMState.{VMState}
 use Rattle.machine.specs.declared.refusal.InstructionError.{InstructionError}
 use Rattle.machine.specs.declared.effect.Effect.{Effect as Arrays}
 use Rattle.machine.specs.declared.effect.Decided.{Decided}

@@ -9,7 +9,7 @@ use borrow.Author.Tests.{ltb-true, ltb-false, eqb-true, eq-eqb, ne-eqb}
 use mathlib.Core.Logic.{inl, inr, _⊎_}
 use lib.ListN.{length, getD}
 use lib.Dec.{eqb, ltb}
-use Rattle.machine.specs.declared.vm.VMState.{VMState}
+use Rattle.machine.specs.declared.state.VMState.{VMState}
 use Rattle.machine.specs.Choice.{cond}
 use Rattle.machine.specs.Instruction.{Row, Argument, words, place-of-stack, table, Decoded, known, unknown, decodeIn, decode, argumentFault}
 use Rattle.machine.specs.Ram.{cells}

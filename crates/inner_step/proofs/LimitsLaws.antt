@@ -10,11 +10,11 @@ use native.Mathlib.Omega.{arith}
 use borrow.Author.Tests.{eq-eqb, ne-eqb, eqb-true, eqb-false, ltb-true, ltb-false}
 use lib.ListN.{length, take, getD, length-take}
 use lib.Dec.{eqb, ltb}
-use Rattle.machine.specs.declared.vm.VMState.{VMState}
+use Rattle.machine.specs.declared.state.VMState.{VMState}
 use Rattle.machine.specs.declared.effect.Effect.{Effect as Arrays}
 use Rattle.machine.specs.declared.effect.U32Call.{U32Call}
 use Rattle.machine.specs.Choice.{cond, firstOf, aboveOf}
-use Rattle.machine.specs.Ram.{Cells, cells, at, absent, placeFrom, find, hasAt, has, stored}
+use Rattle.machine.specs.Ram.{Cells, cells, at, absent, find, hasAt, has, stored}
 use Rattle.machine.specs.Machine.{Code, Memory, machine}
 use Rattle.machine.specs.Effect.{Call, stays, pushes, pops}
 use Rattle.machine.specs.EffectView.{u32sOf, accessesFrom, readsFrom, writesFrom, jumpOf, callsOf, effectOf}
@@ -39,11 +39,7 @@ module _ (w : List ℕ) (i n a : ℕ) where
 
 pub has-in : (c : Cells) (a : ℕ) → has c a ≡ hasIn (c .addresses) (c .count) a
 unfolding has find hasIn
-has-in c a = go (ltb (placeFrom (c .addresses) a (c .count) 0) (c .count)) _ _
-  where
-    go : (t : Bool) (i j : ℕ) → hasAt (cond t (at i) (absent j)) ≡ t
-    go true i j = refl
-    go false i j = refl
+has-in c a = refl
 
 pub in-at : (c : Cells) (a i : ℕ) → at i ≡ find c a → hasIn (c .addresses) (c .count) a ≡ true
 unfolding has

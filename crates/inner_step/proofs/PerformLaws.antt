@@ -10,7 +10,7 @@ use lib.ListN.{length, take, getD, set, length-append}
 use lib.Seq.{take-all}
 use lib.Dec.{ltb}
 use Rattle.tip5.specs.declared.sponge.Sponge.{Sponge}
-use Rattle.machine.specs.declared.vm.VMState.{VMState}
+use Rattle.machine.specs.declared.state.VMState.{VMState}
 use Rattle.machine.specs.declared.effect.Effect.{Effect as Arrays}
 use Rattle.machine.specs.declared.effect.U32Call.{U32Call}
 use Rattle.machine.specs.declared.hashing.Hashed.{Hashed}

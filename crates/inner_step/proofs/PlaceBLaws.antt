@@ -7,7 +7,7 @@ use native.Mathlib.Omega.{arith}
 use borrow.Author.Tests.{ltb-true, leb-true, lt-ltb, le-ltb}
 use lib.ListN.{length, getD}
 use lib.Dec.{ltb, leb}
-use Rattle.machine.specs.declared.vm.VMState.{VMState}
+use Rattle.machine.specs.declared.state.VMState.{VMState}
 use Rattle.machine.specs.Choice.{cond}
 use Rattle.machine.specs.Refusal.{plainly}
 use Rattle.machine.specs.Instruction.{Row, Change, grows, shrinks, grows-by-argument, shrinks-by-argument, table, Decoded, known, unknown, decode, grownBy, shrunkBy}

@@ -9,7 +9,7 @@ use borrow.Author.Tests.{eq-eqb, eqb-true}
 use lib.ListN.{length, take, getD}
 use lib.Seq.{paste-zero}
 use lib.Dec.{eqb}
-use Rattle.machine.specs.declared.vm.VMState.{VMState}
+use Rattle.machine.specs.declared.state.VMState.{VMState}
 use Rattle.machine.specs.declared.effect.Effect.{Effect as Arrays}
 use Rattle.machine.specs.declared.effect.Decided.{Decided}
 use Rattle.machine.specs.declared.effect.Verdict.{Verdict}
@@ -22,17 +22,19 @@ use Rattle.machine.specs.Effect.{Next, stays, keeps, Effect, acts, refuses}
 use Rattle.machine.specs.EffectView.{u32sOf, accessesFrom, nextOf, effectOf, verdictOf, decisionOf}
 use Rattle.machine.specs.Decide.{opcodeOf, decideOf}
 use Rattle.machine.specs.Apply.{took, touched, appliedStack, pointerAfter, performed, limitsOf, settled}
-use Rattle.machine.specs.Step.{outcomeBy}
+use Rattle.machine.specs.Records.{callRecords, stackRecords, recordsOf}
+use Rattle.machine.specs.Step.{recordsIn, outcomeBy}
 use Rattle.machine.specs.Sound.{Sound}
 use Rattle.machine.proofs.Choice.{first-zero, above-not}
 use Rattle.machine.proofs.Words.{words-getD}
 use Rattle.machine.proofs.OpStack.{top-words}
 use Rattle.machine.proofs.Rows.{argument-at}
 use Rattle.machine.proofs.Facts.{facts}
+use Rattle.machine.proofs.Logged.{records-after}
 use Rattle.inner_step.specs.declared.quick.QuickStep.{QuickStep}
 use Rattle.inner_step.specs.DecideView.{Shows, DecidedPlain}
 use Rattle.inner_step.specs.PlaceBView.{placeB}
-use Rattle.inner_step.specs.QuickView.{notQuick, Usable, StandingQuick, DecidedQuick, Still, Quiet, Shift, Changing, Changed, onwardAs, onwardTo, Walking, Quicked}
+use Rattle.inner_step.specs.QuickView.{notQuick, Usable, StandingQuick, DecidedQuick, Still, Quiet, Shift, Changing, Changed, onwardAs, onwardTo, Walking, StepsTo, Quicked}
 use Rattle.inner_step.proofs.DecideLaws.{shown}
 use Rattle.inner_step.proofs.LimitsLaws.{taken-length}
 use Rattle.inner_step.proofs.PerformLaws.{take-least}
@@ -69,19 +71,27 @@ module _ (m : Machine) (n : ℕ) (ws : List ℕ) (q : Next) (sound : Sound m) wh
       ap (λ (t : Bool). machine (onwardAs (m .state) r t) (m .code) (memory w (m .memory .origins) (m .memory .destinations) (m .memory .addresses) (m .memory .values) (m .memory .output))) h
       ∙ rw (← paste-zero (m .memory .output) (m .state .outputs) [], e, f, g, add-zero (m .state .outputs), add-zero (m .state .publics), add-zero (m .state .secrets), add-zero (m .state .digests))
 
+  moving-records : (w : List ℕ) (d : ℕ) → decideOf m ≡ acts (moving n ws q) → m .state .depth - n + length ws ≤ length (m .memory .opStack) → d ≡ m .state .depth - n + length ws →
+      w ≡ appliedStack (m .memory .opStack) (m .state .depth) n ws → recordsIn m (decideOf m) ≡ stackRecords (m .state .clock) w w (m .state .depth) d
+  unfolding callRecords
+  moving-records w d x l f g =
+      let k = facts m sound (moving n ws q) x in
+      rw (x, f, g) (sym (records-after m (moving n ws q) (sound .deep) (k .pops) (sound .opStack .used) (omega (arith, k .deep, k .pops, sound .deep)) l))
+
 -- where such an effect is decided and has room, it is the step
-pub shifts : (m : Machine) (e : Arrays) (r : QuickStep) (w : List ℕ) → Sound m → m .state .halted ≡ false → decideOf m ≡ acts (effectOf e) → Shift (m .state) e (opcodeOf m) (m .memory .opStack) r w →
-    outcomeBy decideOf m ≡ took (machine (onwardTo (m .state) r) (m .code) (memory w (m .memory .origins) (m .memory .destinations) (m .memory .addresses) (m .memory .values) (m .memory .output)))
+pub shifts : (m : Machine) (e : Arrays) (r : QuickStep) (w : List ℕ) → Sound m → m .state .halted ≡ false → decideOf m ≡ acts (effectOf e) → Shift (m .state) e (opcodeOf m) (m .memory .opStack) r w → StepsTo m r w
 unfolding outcomeBy settled
 shifts m e r w sound on d s =
     let ws = take (e .count) (e .words) in
     let E = moving (e .pops) ws (nextOf e) in
     let k : length ws ≡ min (e .count) 16 = taken-length (e .count) 16 (e .words) (s .sixteen) in
     let x : decideOf m ≡ acts E = d ∙ ap acts (still-effect e (s .still)) in
-    let l : limitsOf m E ≡ 0 = moving-limits m (e .pops) ws (nextOf e) sound (omega (arith, k, s .depth, s .deeper)) (s .clock) in
-    let y = moving-performed m (e .pops) ws (nextOf e) sound r w on (s .pointer ∙ sym (next-is m (e .jumps) (e .target))) (omega (arith, k, s .depth))
-    (s .stack ∙ ap (appliedStack (m .memory .opStack) (m .state .depth) (e .pops)) (take-least (e .count) 16 (e .words) (s .sixteen))) in
-    rw (x, eq-eqb (limitsOf m E) 0 l, y)
+    let room : m .state .depth - e .pops + length ws ≤ length (m .memory .opStack) = omega (arith, k, s .depth, s .deeper) in
+    let deep : r .depth ≡ m .state .depth - e .pops + length ws = omega (arith, k, s .depth) in
+    let stack = s .stack ∙ ap (appliedStack (m .memory .opStack) (m .state .depth) (e .pops)) (take-least (e .count) 16 (e .words) (s .sixteen)) in
+    let l : limitsOf m E ≡ 0 = moving-limits m (e .pops) ws (nextOf e) sound room (s .clock) in
+    let y = moving-performed m (e .pops) ws (nextOf e) sound r w on (s .pointer ∙ sym (next-is m (e .jumps) (e .target))) deep stack in
+    record { outcome = rw (x, eq-eqb (limitsOf m E) 0 l, y); records = moving-records m (e .pops) ws (nextOf e) sound w (r .depth) x room deep stack }
 
 -- ---- what the code relies on
 

@@ -7,7 +7,7 @@ use Rattle.tip5.specs.declared.sponge.Sponge.{Sponge}
 use Rattle.inner_step.specs.declared.answer.Answer.{Answer}
 use Rattle.inner_step.specs.declared.answer.Answer.the-variants.{Took, Refused}
 use Rattle.inner_step.specs.declared.answer.Moved.{Moved}
-use Rattle.machine.specs.declared.vm.VMState.{VMState}
+use Rattle.machine.specs.declared.state.VMState.{VMState}
 use Rattle.machine.specs.declared.effect.Effect.{Effect as Arrays}
 use Rattle.machine.specs.Choice.{cond}
 use Rattle.machine.specs.Refusal.{Refusal, refusalOf, plainly}

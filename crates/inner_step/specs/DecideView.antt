@@ -7,7 +7,7 @@ use lib.ListN.{length, getD, take, drop}
 use lib.Dec.{eqb, ltb}
 use Rattle.field.specs.Base.{p}
 use Rattle.tip5.specs.declared.sponge.Sponge.{Sponge}
-use Rattle.machine.specs.declared.vm.VMState.{VMState}
+use Rattle.machine.specs.declared.state.VMState.{VMState}
 use Rattle.machine.specs.declared.effect.Decided.{Decided}
 use Rattle.machine.specs.declared.hashing.Hashed.{Hashed}
 use Rattle.machine.specs.Choice.{cond}

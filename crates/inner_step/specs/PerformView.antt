@@ -2,14 +2,14 @@
 use Prim.Native.Nat.{ℕ, zero, suc, _+_, _-_, _≤_, min}
 use mathlib.Core.Path.{_≡_}
 use mathlib.Core.Bool.{Bool, true, false}
-use mathlib.Core.List.{List}
+use mathlib.Core.List.{List, []}
 use lib.ListN.{length, take, getD, set}
-use lib.Dec.{eqb, ltb}
+use lib.Dec.{eqb}
 use Rattle.tip5.specs.declared.sponge.Sponge.{Sponge}
-use Rattle.machine.specs.declared.vm.VMState.{VMState}
+use Rattle.machine.specs.declared.state.VMState.{VMState}
 use Rattle.machine.specs.declared.effect.Effect.{Effect as Arrays}
 use Rattle.machine.specs.Choice.{cond}
-use Rattle.machine.specs.Ram.{Cells, cells, placeFrom}
+use Rattle.machine.specs.Ram.{Cells, cells, has}
 use Rattle.machine.specs.Machine.{Code, Memory, machine, memory}
 use Rattle.machine.specs.EffectView.{effectOf, writesFrom}
 use Rattle.machine.specs.Apply.{touched, limitsOf, performedAt, dropped}
@@ -30,9 +30,9 @@ unfoldable pub amongOf : List ℕ → ℕ → ℕ → ℕ → Bool
 amongOf w i zero a = false
 amongOf w i (suc n) a = cond (eqb (getD w (i + n) 0) a) true (amongOf w i n a)
 
--- whether it is one of the first n
+-- whether it has a cell among the first n; what they hold does not matter
 unfoldable pub hasIn : List ℕ → ℕ → ℕ → Bool
-hasIn s n a = ltb (placeFrom s a n 0) n
+hasIn s n a = has (cells n s []) a
 
 -- 1 where the write at place i + k, of those from place i on, adds a cell
 unfoldable pub newOf : List ℕ → ℕ → List ℕ → ℕ → ℕ → ℕ

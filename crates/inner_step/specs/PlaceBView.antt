@@ -5,7 +5,7 @@ use mathlib.Core.List.{List}
 use lib.ListN.{length, getD}
 use lib.Dec.{ltb}
 use Rattle.field.specs.Base.{p}
-use Rattle.machine.specs.declared.vm.VMState.{VMState}
+use Rattle.machine.specs.declared.state.VMState.{VMState}
 use Rattle.machine.specs.Choice.{cond}
 use Rattle.machine.specs.Words.{Words}
 use Rattle.machine.specs.Instruction.{decode}

@@ -5,7 +5,7 @@ use mathlib.Core.Bool.{Bool, true, false}
 use mathlib.Core.List.{List}
 use lib.ListN.{length, getD, take}
 use Rattle.field.specs.Base.{p}
-use Rattle.machine.specs.declared.vm.VMState.{VMState}
+use Rattle.machine.specs.declared.state.VMState.{VMState}
 use Rattle.machine.specs.declared.effect.Effect.{Effect as Arrays}
 use Rattle.machine.specs.declared.effect.Decided.{Decided}
 use Rattle.machine.specs.declared.effect.Verdict.the-variants.{Acts}
@@ -16,7 +16,8 @@ use Rattle.machine.specs.Machine.{Machine, machine, code, memory}
 use Rattle.machine.specs.PlaceA.{longest, argument4}
 use Rattle.machine.specs.Decide.{decideOf}
 use Rattle.machine.specs.Apply.{took, appliedStack}
-use Rattle.machine.specs.Step.{outcomeBy}
+use Rattle.machine.specs.Records.{stackRecords}
+use Rattle.machine.specs.Step.{recordsIn, outcomeBy}
 use Rattle.machine.specs.Sound.{Sound}
 use Rattle.inner_step.specs.declared.quick.QuickStep.{QuickStep}
 use Rattle.inner_step.specs.DecideView.{Handed, Acted, DecidedPlain}
@@ -113,8 +114,12 @@ pub record Walking (s : VMState) (o a u x w from to c v : List ℕ) : Type 0 whe
   pub sound : Sound (machine s (code o a u x digests) (memory w from to c v output))
   pub on : s .halted ≡ false
 
+-- it is the step of m, and the op stack's records are all that it has
+pub record StepsTo (m : Machine) (r : QuickStep) (w2 : List ℕ) : Type 0 where
+  pub outcome : outcomeBy decideOf m ≡ took (machine (onwardTo (m .state) r) (m .code) (memory w2 (m .memory .origins) (m .memory .destinations) (m .memory .addresses) (m .memory .values) (m .memory .output)))
+  pub records : recordsIn m (decideOf m) ≡ stackRecords (m .state .clock) w2 w2 (m .state .depth) (r .depth)
+
 -- where it is taken, it is the machine's step, whatever is not handed over; else nothing is changed
 pub record Quicked (s : VMState) (o a u x w from to c v : List ℕ) (r : QuickStep) (w2 : List ℕ) : Type 0 where
-  pub done : r .done ≡ true → (digests output : List ℕ) → Sound (machine s (code o a u x digests) (memory w from to c v output)) →
-      outcomeBy decideOf (machine s (code o a u x digests) (memory w from to c v output)) ≡ took (machine (onwardTo s r) (code o a u x digests) (memory w2 from to c v output))
+  pub done : r .done ≡ true → (digests output : List ℕ) → Sound (machine s (code o a u x digests) (memory w from to c v output)) → StepsTo (machine s (code o a u x digests) (memory w from to c v output)) r w2
   pub kept : r .done ≡ false → w2 ≡ w

@@ -1,5 +1,5 @@
 -- What the code of a step's records relies on and promises.
-use Prim.Native.Nat.{ℕ}
+use Prim.Native.Nat.{ℕ, _+_, _≤_}
 use mathlib.Core.Path.{_≡_}
 use mathlib.Core.Bool.{Bool, true, false}
 use mathlib.Core.List.{List, [], _++_}
@@ -8,7 +8,7 @@ use Rattle.machine.specs.declared.effect.Effect.{Effect as Arrays}
 use Rattle.machine.specs.declared.hashing.Hashed.{Hashed}
 use Rattle.machine.specs.Choice.{cond}
 use Rattle.machine.specs.Records.{Record, logBytes}
-use Rattle.machine.specs.Logged.{LogRoom}
+use Rattle.machine.specs.Logged.{logged, stackBytes, Deep, LogRoom}
 use Rattle.inner_step.specs.declared.answer.Answer.{Answer}
 use Rattle.inner_step.specs.declared.answer.Answer.the-variants.{Took, Refused}
 
@@ -29,3 +29,14 @@ RoomyHashed t h s b d d2 = Roomy t (cond (h .traces) 774 4) (h .decided .effect)
 pub record Recorded (t : Bool) (b b2 : List ℕ) (rs : List Record) (n : ℕ) : Type 0 where
   pub buffer : b2 ≡ cond t (logBytes rs) [] ++ drop (length (cond t (logBytes rs) [])) b
   pub bytes : n ≡ length (cond t (logBytes rs) [])
+
+-- ---- the op stack's alone, behind place at
+
+pub record RoomyAt (t : Bool) (s b : List ℕ) (at d d2 : ℕ) : Type 0 where
+  pub deep : t ≡ true → Deep s d d2
+  pub room : t ≡ true → at + stackBytes d d2 ≤ length b
+
+-- b2 is b with the records' bytes from place at on, or b
+pub record RecordedAt (t : Bool) (b b2 : List ℕ) (at : ℕ) (rs : List Record) (next : ℕ) : Type 0 where
+  pub buffer : b2 ≡ logged b at (cond t (logBytes rs) [])
+  pub place : next ≡ at + length (cond t (logBytes rs) [])

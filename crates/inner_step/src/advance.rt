@@ -18,7 +18,7 @@ use crate::settle::settle;
 use machine::effect::Effect;
 use machine::effect::Verdict;
 use machine::instruction::size;
-use machine::vm::VMState;
+use machine::state::VMState;
 use tip5::sponge::Sponge;
 
 // Where the pointer goes.

@@ -1,5 +1,5 @@
 use machine::refusal::InstructionError;
-use machine::vm::VMState;
+use machine::state::VMState;
 
 // A step is taken, or turned down.
 pub enum Answer {

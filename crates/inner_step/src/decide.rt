@@ -1,4 +1,4 @@
-// What the next instruction does: places B and C.
+// What the next instruction does: place C, behind place B.
 ghost use mathlib.Core.Path.{_≡_};
 ghost use Prim.Native.Nat.{_≤_};
 ghost use lib.ListN.{length};
@@ -18,7 +18,7 @@ use machine::memory;
 use machine::op_stack::top;
 use machine::refusal::InstructionError;
 use machine::stack;
-use machine::vm::VMState;
+use machine::state::VMState;
 use tip5::sponge::Sponge;
 
 // Whether an instruction's effect carries a trace or changes the sponge.

@@ -12,7 +12,7 @@ use machine::effect::Effect;
 use machine::op_stack::over;
 use machine::ram;
 use machine::ram::Found;
-use machine::vm::VMState;
+use machine::state::VMState;
 
 // How many entries the jump stack has after an effect.
 pub fn jumps_after(n: usize, calls: bool, returns: bool) -> usize

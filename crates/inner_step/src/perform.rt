@@ -14,7 +14,7 @@ use machine::effect::Effect;
 use machine::op_stack::apply;
 use machine::op_stack::over;
 use machine::ram;
-use machine::vm::VMState;
+use machine::state::VMState;
 use tip5::sponge::Sponge;
 
 // Stores a word; a place that the slice does not have is left alone.

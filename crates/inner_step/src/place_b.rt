@@ -6,7 +6,7 @@ ghost use Rattle.machine.specs.Refusal.{refusalOf, plainly};
 ghost use Rattle.inner_step.specs.PlaceBView.{placeB, Slots};
 use machine::instruction;
 use machine::refusal::InstructionError;
-use machine::vm::VMState;
+use machine::state::VMState;
 
 pub fn place_b(state: VMState, opcodes: &[u64], arguments: &[u64]) -> u64
     requires { ⌜ Slots state (now opcodes) (now arguments) ⌝ }

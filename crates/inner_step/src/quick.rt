@@ -21,7 +21,7 @@ use machine::op_stack::apply;
 use machine::op_stack::top;
 use machine::refusal::InstructionError;
 use machine::stack;
-use machine::vm::VMState;
+use machine::state::VMState;
 
 // Whether a quick step was taken, and where pointer and depth are then.
 pub struct QuickStep {

@@ -4,7 +4,7 @@ ghost use mathlib.Core.List.{_++_};
 ghost use Rattle.machine.specs.EffectView.{callsOf};
 ghost use Rattle.machine.specs.HashedView.{hashedCalls};
 ghost use Rattle.machine.specs.Records.{callRecords, stackRecords};
-ghost use Rattle.inner_step.specs.RecordsView.{askedOf, Roomy, RoomyHashed, Recorded};
+ghost use Rattle.inner_step.specs.RecordsView.{askedOf, Roomy, RoomyHashed, RoomyAt, Recorded, RecordedAt};
 use crate::answer::Answer;
 use machine::calls;
 use machine::effect::Effect;
@@ -68,5 +68,25 @@ pub fn hashed(
         }
     } else {
         0
+    }
+}
+
+// The op stack's records alone, behind place `at` of the buffer; gives the next place.
+pub fn moved(
+    recording: bool,
+    clock: u32,
+    stack: &[u64],
+    depth: usize,
+    after: usize,
+    b: &mut [u8],
+    at: usize,
+) -> usize
+    requires { ⌜ RoomyAt recording (now stack) (now b) at depth after ⌝ }
+    ensures { λ r. ⌜ RecordedAt recording (now (b .entry)) (now (b .exit)) at (stackRecords clock (now (stack .entry)) (now (stack .entry)) depth after) r ⌝ }
+{
+    if recording {
+        calls::log_depth(b, at, clock, stack, depth, after)
+    } else {
+        at
     }
 }

@@ -10,7 +10,7 @@ use crate::limits;
 use crate::perform;
 use machine::effect::Effect;
 use machine::refusal::InstructionError;
-use machine::vm::VMState;
+use machine::state::VMState;
 use tip5::sponge::Sponge;
 
 // The error of a limit's number.

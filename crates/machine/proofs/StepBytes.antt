@@ -59,7 +59,7 @@ unfolding shrinking logBytes
 shrinking-length t s q zero = refl
 shrinking-length t s q (suc n) = log-length (shrinking t s q n) _ ∙ rw (shrinking-length t s q n, one-length) (omega arith)
 
-stack-records-length : (t : ℕ) (s after : List ℕ) (d d2 : ℕ) → length (logBytes (stackRecords t s after d d2)) ≡ 25 * (d2 - d) + 25 * (d - d2)
+pub stack-records-length : (t : ℕ) (s after : List ℕ) (d d2 : ℕ) → length (logBytes (stackRecords t s after d d2)) ≡ 25 * (d2 - d) + 25 * (d - d2)
 unfolding stackRecords
 stack-records-length t s after d d2 = simp (log-length, growing-length, shrinking-length)
 

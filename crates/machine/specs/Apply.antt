@@ -6,7 +6,7 @@ use lib.ListN.{length, set, replicate}
 use lib.Seq.{paste}
 use lib.Dec.{eqb}
 use Rattle.tip5.specs.declared.sponge.Sponge.{Sponge}
-use Rattle.machine.specs.declared.vm.VMState.{VMState}
+use Rattle.machine.specs.declared.state.VMState.{VMState}
 use Rattle.machine.specs.Choice.{cond, firstOf, aboveOf}
 use Rattle.machine.specs.Refusal.{Refusal, plainly}
 use Rattle.machine.specs.Ram.{Cells, cells, stored}

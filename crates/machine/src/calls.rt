@@ -224,7 +224,7 @@ fn log_shrinking(b: &mut [u8], at: usize, clock: u32, stack: &[u64], q: usize, n
 
 // The op-stack records from one depth to another. Both loops run, and at least one has no turn: so no test says which way
 // the depth went.
-fn log_depth(
+pub fn log_depth(
     b: &mut [u8],
     at: usize,
     clock: u32,

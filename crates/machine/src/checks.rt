@@ -12,7 +12,7 @@ ghost use Rattle.machine.specs.PlaceA.{longest, code1, memory1, code2, u
 use crate::instruction;
 use crate::ram;
 use crate::ram::Found;
-use crate::vm::VMState;
+use crate::state::VMState;
 
 // The first number that is not 0.
 pub fn first(a: u64, b: u64) -> u64

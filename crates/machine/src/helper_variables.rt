@@ -15,7 +15,7 @@ use crate::effect;
 use crate::memory;
 use crate::op_stack::top;
 use crate::ram;
-use crate::vm::VMState;
+use crate::state::VMState;
 use field::base;
 
 // The argument's digits 0 to 3.

@@ -15,4 +15,4 @@ pub mod op_stack;
 pub mod ram;
 pub mod refusal;
 pub mod stack;
-pub mod vm;
+pub mod state;

@@ -1,6 +1,6 @@
 // What a step answers, as document 01's numbers.
 use inner_step::answer::Answer;
-use machine::vm::VMState;
+use machine::state::VMState;
 use vm::refusals::Refusal;
 use vm::refusals::numbered;
 

@@ -7,7 +7,7 @@ use crate::words::filled;
 use crate::words::least;
 use crate::words::plus;
 use crate::words::word;
-use machine::vm::VMState;
+use machine::state::VMState;
 use tip5::sponge::Sponge;
 
 // The words follow the eighteen bytes of the head.

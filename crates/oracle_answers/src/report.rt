@@ -18,7 +18,7 @@ use crate::words::same_six;
 use crate::words::word;
 use inner_step::answer::Answer;
 use libc::STDOUT_FILENO;
-use machine::vm::VMState;
+use machine::state::VMState;
 use vm::helper_variables::Helped;
 
 // A line where something differs. Gives back whether it is the same.

@@ -11,7 +11,7 @@ use crate::report::memory_right;
 use crate::report::state_right;
 use crate::words::both;
 use inner_step::answer::Stepped;
-use machine::vm::VMState;
+use machine::state::VMState;
 use vm::helper_variables::helper_variables;
 use vm::step::step;
 

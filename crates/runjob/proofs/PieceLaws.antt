@@ -131,7 +131,7 @@ traces-full : (n room : ℕ) (m : Machine) → m .state .halted ≡ false → ro
 unfolding tracesOf
 traces-full n room m h l = rw (h, lt-ltb room 1024 l)
 
-traces-on : (n room : ℕ) (m : Machine) → m .state .halted ≡ false → 1024 ≤ room → tracesOf (suc n) room m ≡ onTrace m (λ x. tracesOf n (room - length (stepLog m)) x) (outcomeBy decideOf m)
+traces-on : (n room : ℕ) (m : Machine) → m .state .halted ≡ false → 1024 ≤ room → tracesOf (suc n) room m ≡ onTrace (stepLog m) m (λ x. tracesOf n (room - length (stepLog m)) x) (outcomeBy decideOf m)
 unfolding tracesOf
 traces-on n room m h l = rw (h, le-ltb room 1024 l)
 
@@ -204,7 +204,7 @@ part-more n room room2 m x g s h e q =
     one-more k r = let f : k + r .count + 1 ≡ k + 1 + r .count = omega arith in rw f
 
 part-on : (n room : ℕ) (m : Machine) → Sound m → ((x : Machine) → Sound x → Part n (room - length (stepLog m)) x (tracesOf n (room - length (stepLog m)) x)) → m .state .halted ≡ false →
-    (o : Outcome) → outcomeBy decideOf m ≡ o → Part (suc n) room m (onTrace m (λ x. tracesOf n (room - length (stepLog m)) x) o)
+    (o : Outcome) → outcomeBy decideOf m ≡ o → Part (suc n) room m (onTrace (stepLog m) m (λ x. tracesOf n (room - length (stepLog m)) x) o)
 part-on n room m s ih h (took x) e = part-more n room (room - length (stepLog m)) m x (tracesOf n (room - length (stepLog m)) x) s h e (ih x (step-sound decideOf facts m x s e))
 part-on n room m s ih h (kept r) e =
     part-none (suc n) room m (refused r) m s (λ q. let z : _≡_ {A = ℕ} 0 1 = cc in absurd (omega arith)) (records-kept n m r h e) (steps-kept n m r h e)

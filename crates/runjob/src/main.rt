@@ -12,7 +12,7 @@ ghost use Rattle.job.specs.JobFileView.{lent};
 ghost use Rattle.runjob.specs.PieceView.{Ready, Room};
 ghost use Rattle.runjob.specs.StartView.{Blank};
 use job::listing::refused_line;
-use machine::vm::VMState;
+use machine::state::VMState;
 use piece::piece;
 use start::start;
 

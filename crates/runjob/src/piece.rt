@@ -13,7 +13,7 @@ use job::listing::out_lines;
 use job::listing::refused_line;
 use job::listing::spent_line;
 use job::log_lines::stack_lines;
-use machine::vm::VMState;
+use machine::state::VMState;
 use vm::answer::TraceEnding;
 use vm::trace::trace_execution;
 

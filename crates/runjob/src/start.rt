@@ -5,7 +5,7 @@ ghost use Rattle.runjob.specs.StartView.{Blank, Starts};
 use crate::refusals::number_in;
 use job::job_file::read_job;
 use machine::checks::first;
-use machine::vm::VMState;
+use machine::state::VMState;
 use vm::open::open;
 
 // Number 0 where the job is opened; how many words of the slices are its program and inputs, its budget, and its registers.

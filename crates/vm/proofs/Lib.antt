@@ -4,4 +4,5 @@ pub mod HelpedLaws
 pub mod OpenLaws
 pub mod RunLaws
 pub mod StepLaws
+pub mod StepsLaws
 pub mod TraceLaws

@@ -6,7 +6,7 @@ use native.Mathlib.Omega.{arith}
 use lib.ListN.{length, getD, take, drop, replicate, length-drop, length-replicate, drop-of-length-le}
 use lib.Seq.{take-all}
 use Rattle.machine.specs.declared.refusal.InstructionError.{InstructionError}
-use Rattle.machine.specs.declared.vm.VMState.{VMState}
+use Rattle.machine.specs.declared.state.VMState.{VMState}
 use Rattle.machine.specs.Copied.{copied}
 use Rattle.machine.specs.Refusal.{refusalOf, plainly}
 use Rattle.machine.specs.Machine.{Code, Memory, memory}

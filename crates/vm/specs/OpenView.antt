@@ -2,7 +2,7 @@
 use Prim.Native.Nat.{ℕ}
 use mathlib.Core.Bool.{false}
 use mathlib.Core.List.{List}
-use Rattle.machine.specs.declared.vm.VMState.{VMState}
+use Rattle.machine.specs.declared.state.VMState.{VMState}
 use Rattle.machine.specs.Machine.{Code, Memory, machine}
 use Rattle.machine.specs.Open.{noSponge, openOf}
 use Rattle.inner_step.specs.declared.answer.Moved.{Moved}

@@ -35,18 +35,18 @@ traced n e m log = record { count = n; ending = e; left = m; log = log }
 unfoldable pub stepLog : Machine → List ℕ
 stepLog m = logBytes (recordsIn m (decideOf m))
 
--- after a step from m: on with k from the machine after it
-abbrev pub onTrace : Machine → (Machine → Traced) → Outcome → Traced
-onTrace m k (took x) = traced (k x .count + 1) (k x .ending) (k x .left) (stepLog m ++ k x .log)
-onTrace m k (kept r) = traced 0 (refused r) m []
-onTrace m k (lost r x) = traced 0 (refused r) x []
+-- after a step from m, which writes own where it is taken: on with k from the machine after it
+abbrev pub onTrace : List ℕ → Machine → (Machine → Traced) → Outcome → Traced
+onTrace own m k (took x) = traced (k x .count + 1) (k x .ending) (k x .left) (own ++ k x .log)
+onTrace own m k (kept r) = traced 0 (refused r) m []
+onTrace own m k (lost r x) = traced 0 (refused r) x []
 
 -- with so many bytes left. Halted is tried before spent, spent before full, and full before a step
 unfoldable pub tracesOf : ℕ → ℕ → Machine → Traced
 tracesOf zero room m = traced 0 (cond (m .state .halted) halted spent) m []
 tracesOf (suc n) room m =
     cond (m .state .halted) (traced 0 halted m [])
-    (cond (ltb room 1024) (traced 0 full m []) (onTrace m (λ x. tracesOf n (room - length (stepLog m)) x) (outcomeBy decideOf m)))
+    (cond (ltb room 1024) (traced 0 full m []) (onTrace (stepLog m) m (λ x. tracesOf n (room - length (stepLog m)) x) (outcomeBy decideOf m)))
 
 -- place A is run's, and the log is not too long; a short one is full at once
 unfoldable pub traceA : Machine → List ℕ → ℕ

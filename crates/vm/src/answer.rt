@@ -1,5 +1,5 @@
 use machine::refusal::InstructionError;
-use machine::vm::VMState;
+use machine::state::VMState;
 
 // How a run ended.
 pub enum Ending {

@@ -5,7 +5,7 @@ ghost use Rattle.machine.specs.HelperVariables.{helperVariablesOf};
 ghost use Rattle.vm.specs.HelpedView.{helpedOf};
 use machine::checks::check_machine;
 use machine::helper_variables::helpers;
-use machine::vm::VMState;
+use machine::state::VMState;
 
 // Place A's number, 0 where it accepts, and the six words.
 pub struct Helped {

@@ -6,4 +6,5 @@ pub mod open;
 pub mod refusals;
 pub mod run;
 pub mod step;
+mod steps;
 pub mod trace;

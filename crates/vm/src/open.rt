@@ -11,7 +11,7 @@ use inner_step::answer::Moved;
 use machine::checks::check_open;
 use machine::op_stack::apply;
 use machine::op_stack::clear;
-use machine::vm::VMState;
+use machine::state::VMState;
 use tip5::sponge::Sponge;
 
 // All registers 0 but for these two, and no sponge.

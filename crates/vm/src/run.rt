@@ -1,112 +1,25 @@
 // run: place A once, then steps up to a budget, with no records.
 ghost use mathlib.Core.Path.{_≡_};
 ghost use Rattle.machine.specs.Machine.{machine, code, memory};
-ghost use Rattle.machine.specs.Sound.{Sound};
-ghost use Rattle.vm.specs.RunView.{endOf, RunsOn, Runs};
+ghost use Rattle.vm.specs.TraceView.{endingIn as traceEndingIn};
+ghost use Rattle.vm.specs.RunView.{endingIn, unloggedOf, Runs};
 use crate::answer::Ending;
 use crate::answer::Ran;
+use crate::answer::TraceEnding;
 use crate::faults::fault;
-use inner_step::advance::advance;
-use inner_step::answer::Answer;
-use inner_step::quick::quick;
+use crate::steps::steps;
 use machine::checks::check_machine;
-use machine::vm::VMState;
+use machine::state::VMState;
 
-// How a run ended that was not refused.
-fn end(halted: bool) -> Ending
-    ensures { λ r. ⌜ r ≡ endOf halted ⌝ }
+// How steps ended that wrote no log, which is never full.
+fn unlogged(ending: TraceEnding) -> Ending
+    ensures { λ r. ⌜ endingIn r ≡ unloggedOf (traceEndingIn ending) ⌝ }
 {
-    if halted {
-        Ending::Halted
-    } else {
-        Ending::Spent
-    }
-}
-
-// Up to `budget` steps of a sound machine. Each tries halted, then spent, then a step.
-fn steps(
-    budget: u64,
-    state: VMState,
-    opcodes: &[u64],
-    arguments: &[u64],
-    public: &[u64],
-    secret: &[u64],
-    digests: &[u64],
-    op_stack: &mut [u64],
-    origins: &mut [u64],
-    destinations: &mut [u64],
-    addresses: &mut [u64],
-    values: &mut [u64],
-    output: &mut [u64],
-) -> Ran
-    requires { ⌜ Sound (machine state (code (now opcodes) (now arguments) (now public) (now secret) (now digests))
-        (memory (now «op_stack») (now origins) (now destinations) (now addresses) (now values) (now output))) ⌝ }
-    ensures { λ r. ⌜ RunsOn budget (machine state (code (now (opcodes .entry)) (now (arguments .entry)) (now (public .entry)) (now (secret .entry)) (now (digests .entry)))
-        (memory (now («op_stack» .entry)) (now (origins .entry)) (now (destinations .entry)) (now (addresses .entry)) (now (values .entry)) (now (output .entry)))) r
-        (memory (now («op_stack» .exit)) (now (origins .exit)) (now (destinations .exit)) (now (addresses .exit)) (now (values .exit)) (now (output .exit))) ⌝ }
-{
-    let mut none = [0u8; 1];
-    let mut now = state;
-    let mut count: u64 = 0;
-    while count < budget {
-        if now.halted {
-            break;
-        }
-        let q = quick(
-            now,
-            opcodes,
-            arguments,
-            public,
-            secret,
-            op_stack,
-            origins,
-            destinations,
-            addresses,
-            values,
-        );
-        if q.done {
-            now.clock = now.clock + 1;
-            now.pointer = q.pointer;
-            now.depth = q.depth;
-            count += 1;
-            continue;
-        }
-        let r = advance(
-            false,
-            now,
-            opcodes,
-            arguments,
-            public,
-            secret,
-            digests,
-            op_stack,
-            origins,
-            destinations,
-            addresses,
-            values,
-            output,
-            &mut none,
-        );
-        now = r.state;
-        let answer = r.answer;
-        match answer {
-            Answer::Took => {
-                count += 1;
-            }
-            Answer::Refused(error) => {
-                return Ran {
-                    count: count,
-                    ending: Ending::Refused(error),
-                    state: now,
-                };
-            }
-        }
-    }
-    let ending = end(now.halted);
-    Ran {
-        count: count,
-        ending: ending,
-        state: now,
+    match ending {
+        TraceEnding::Halted => Ending::Halted,
+        TraceEnding::Spent => Ending::Spent,
+        TraceEnding::Full => Ending::Spent,
+        TraceEnding::Refused(error) => Ending::Refused(error),
     }
 }
 
@@ -145,7 +58,9 @@ pub fn run(
         output,
     );
     if n == 0 {
-        steps(
+        let mut none = [0u8; 1];
+        let t = steps(
+            false,
             budget,
             state,
             opcodes,
@@ -159,7 +74,15 @@ pub fn run(
             addresses,
             values,
             output,
-        )
+            &mut none,
+        );
+        let ending = t.ending;
+        let left = t.state;
+        Ran {
+            count: t.count,
+            ending: unlogged(ending),
+            state: left,
+        }
     } else {
         Ran {
             count: 0,

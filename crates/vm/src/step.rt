@@ -8,7 +8,7 @@ use inner_step::answer::Stepped;
 use machine::checks::check_buffer;
 use machine::checks::check_machine;
 use machine::checks::first;
-use machine::vm::VMState;
+use machine::state::VMState;
 
 // A refused step changes nothing, but that skiz on 0 with nothing next has dropped its word; its bytes are 0.
 pub fn step(

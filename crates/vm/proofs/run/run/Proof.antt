@@ -2,6 +2,7 @@
 use borrow.Author.Needs.{needs, length-unmapped}
 use mathlib.Core.Path.{_≡_, sym, _∙_}
 use Prim.Native.Nat.{ℕ}
+use native.Mathlib.Omega.{arith}
 use lib.ListN.{length}
 use Rattle.machine.proofs.PlaceA.{machine-sound}
 use Rattle.vm.proofs.FaultsLaws.{machineA-few, fault-number}
@@ -12,12 +13,18 @@ use Rattle.vm.proofs.run.run.Tie as tie
 check-machine-requires : tie.Need-check-machine-requires
 check-machine-requires c κs = search needs
 
+slice-aggregate-steps : tie.Need-slice-aggregate-steps
+slice-aggregate-steps c = search needs
+
 steps-requires : tie.Need-steps-requires
 steps-requires c κs =
-    let s = c .before .before .before .before .before .before .before .before .before .before .before .before .before .before .before .before .before .before .before .before .before .before .before .before .before in
+    let s = c .before .before .before .before .before .before .before .before .before .before .before .before .before .before .before .before .before .before .before .before .before .before .before .before .before .before in
     let w = s .args .state .sponge .words in
     let sixteen : length w ≡ 16 = length-unmapped ℕ w 16 (s .good .1 .0 .1 .1 .1 .1 .1 .1 .1 .1 .1 .1 .1 .0 .1 .1 .0 .1 .0 .1) in
-    machine-sound _ sixteen (search needs) (sym (c .before .before .before .before .before .before .before .check-machine .ensures) ∙ c .before .before .before .before .before .before .if1 .taken)
+    record { sound = machine-sound _ sixteen (search needs) (sym (c .before .before .before .before .before .before .before .before .check-machine .ensures) ∙ c .before .before .before .before .before .before .before .if1 .taken); few = omega arith }
+
+unlogged-requires : tie.Need-unlogged-requires
+unlogged-requires c κs = search needs
 
 fault-requires : tie.Need-fault-requires
 fault-requires c κs = fault-number (machineA-few _) (c .before .check-machine .ensures) (c .if1 .left)
@@ -41,7 +48,7 @@ same-length-6 : tie.Need-same-length-6
 same-length-6 c = search needs
 
 returns : tie.Need-returns
-returns c = run-accepted _ _ (sym (c .before .before .before .before .before .before .before .before .before .before .before .before .before .before .before .before .before .before .before .before .check-machine .ensures) ∙ c .before .before .before .before .before .before .before .before .before .before .before .before .before .before .before .before .before .before .before .if1 .taken) (c .before .before .before .before .before .before .before .before .before .before .before .before .steps .ensures)
+returns c = run-accepted _ _ (sym (c .before .before .before .before .before .before .before .before .before .before .before .before .before .before .before .before .before .before .before .before .before .before .before .before .check-machine .ensures) ∙ c .before .before .before .before .before .before .before .before .before .before .before .before .before .before .before .before .before .before .before .before .before .before .before .if1 .taken) (c .before .before .before .before .before .before .before .before .before .before .before .before .before .before .before .steps .ensures) (c .unlogged .ensures)
 
 same-length-7 : tie.Need-same-length-7
 same-length-7 c = search needs
@@ -69,7 +76,9 @@ run-spec =
     tie.close
     (tie.spec
     check-machine-requires
+    slice-aggregate-steps
     steps-requires
+    unlogged-requires
     fault-requires
     same-length
     same-length-2

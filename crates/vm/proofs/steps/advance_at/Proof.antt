@@ -1,9 +1,9 @@
--- `vm::trace::advance_at` meets its contract. Assumes nothing.
+-- `vm::steps::advance_at` meets its contract. Assumes nothing.
 use borrow.Author.Needs.{needs}
 use native.Mathlib.Omega.{arith}
-use Rattle.vm.proofs.TraceLaws.{advanced-at}
-use Rattle.vm.proofs.trace.advance_at.Statement.{statement}
-use Rattle.vm.proofs.trace.advance_at.Tie as tie
+use Rattle.vm.proofs.StepsLaws.{advanced-at}
+use Rattle.vm.proofs.steps.advance_at.Statement.{statement}
+use Rattle.vm.proofs.steps.advance_at.Tie as tie
 
 sub-advance : tie.Need-sub-advance
 sub-advance c = search needs
@@ -15,7 +15,9 @@ part-advance-end : tie.Need-part-advance-end
 part-advance-end c = search needs
 
 advance-requires : tie.Need-advance-requires
-advance-requires c κs = search needs
+advance-requires c κs =
+    let s = c .before .before .before .before .before .before .before .before .before .before .before .before .before .before .before .before .before .before .before in
+    record { sound = s .pre .sound; room = λ h. omega (arith, s .pre .room h) }
 
 same-length : tie.Need-same-length
 same-length c = search needs
@@ -39,7 +41,7 @@ same-length-7 : tie.Need-same-length-7
 same-length-7 c = search needs
 
 returns : tie.Need-returns
-returns c = advanced-at (omega (arith, c .before .before .before .before .before .before .before .before .before .before .before .before .before .before .before .before .before .before .before .before .before .before .before .before .before .before .before .before .before .before .before .before .before .before .pre .room)) (c .before .before .before .before .before .before .before .before .before .before .before .before .before .before .advance .ensures)
+returns c = advanced-at (c .before .before .before .before .before .before .before .before .before .before .before .before .before .before .before .before .before .before .before .before .before .before .before .before .before .before .before .before .before .before .before .before .before .before .pre .within) (c .before .before .before .before .before .before .before .before .before .before .before .before .before .before .advance .ensures)
 
 pub advance-at-spec : {M : Type 1} → statement M
 advance-at-spec =
