@@ -3,7 +3,7 @@
 use host::field::P;
 use host::instructions::named;
 use host::job::{Before, Job, Room, Start};
-use host::lent::{answer, ending, Library, Machine, STEP_BYTES};
+use host::lent::{answer, ending, Machine, LIBRARY, STEP_BYTES};
 use host::oracle::Oracle;
 use host::random::Random;
 use kixombu::exports::{step_registers, Registers};
@@ -34,7 +34,7 @@ fn main() {
 fn report(case: &Case, oracle: &Oracle) {
     let start = case.job.started(case.room, &Before::default(), &mut Random::new(1));
     let mut machine = start.clone();
-    let ran = machine.run(&Library, u64::MAX);
+    let ran = machine.run(&LIBRARY, u64::MAX);
     assert_eq!(ran[answer::ENDING], ending::DONE, "{}: {ran:?}", case.name);
     let steps = ran[answer::STEPS];
     let states = first_states(&start);
@@ -76,7 +76,7 @@ fn by_run(start: &Machine) -> f64 {
     per_step(|| {
         let mut machine = start.clone();
         let began = Instant::now();
-        let ran = machine.run(&Library, u64::MAX);
+        let ran = machine.run(&LIBRARY, u64::MAX);
         (began.elapsed(), ran[answer::STEPS])
     })
 }
@@ -86,7 +86,7 @@ fn by_trace(start: &Machine, steps: u64) -> f64 {
     per_step(|| {
         let mut machine = start.clone();
         let began = Instant::now();
-        let ran = machine.trace_execution(&Library, u64::MAX, &mut log);
+        let ran = machine.trace_execution(&LIBRARY, u64::MAX, &mut log);
         (began.elapsed(), ran[answer::STEPS])
     })
 }
@@ -96,7 +96,7 @@ fn by_step(start: &Machine) -> f64 {
     per_step(|| {
         let mut machine = start.clone();
         in_a_turn(|| {
-            let answer = machine.step(&Library, &mut buffer);
+            let answer = machine.step(&LIBRARY, &mut buffer);
             black_box(&buffer);
             answer[answer::NUMBER]
         })
@@ -137,7 +137,7 @@ fn by_helpers(states: &[Machine]) -> f64 {
     per_step(|| {
         let began = Instant::now();
         states.iter_mut().for_each(|state| {
-            black_box(state.helper_variables(&Library));
+            black_box(state.helper_variables(&LIBRARY));
         });
         (began.elapsed(), states.len() as u64)
     })
@@ -148,7 +148,7 @@ fn first_states(start: &Machine) -> Vec<Machine> {
     let mut states = vec![];
     while states.len() < STATES_FOR_HELPERS {
         states.push(machine.clone());
-        if machine.run(&Library, 1)[answer::ENDING] == ending::DONE {
+        if machine.run(&LIBRARY, 1)[answer::ENDING] == ending::DONE {
             break;
         }
     }

@@ -1,8 +1,7 @@
 //! One job three ways: what the oracle reports, the model and the library.
 use crate::job::{Before, Job, Room};
-use crate::lent::Library;
-use crate::lent::{answer, ending, register, Answer, Calls, Machine, STEP_BYTES};
-use crate::model::Model;
+use crate::lent::{answer, ending, register, Answer, Calls, Machine, LIBRARY, STEP_BYTES};
+use crate::model::MODEL;
 use crate::oracle::{End, Refused, Report, State};
 use crate::random::Random;
 use kixombu::{bytes_of, Record};
@@ -48,9 +47,9 @@ impl Both {
     }
 
     /// A call on both, which must come to the same, in what it gives and in every word lent.
-    fn call<T: PartialEq + Debug>(&mut self, what: &str, call: impl Fn(&mut Machine, &dyn Calls) -> T) -> Checked<T> {
-        let by_library = call(&mut self.library, &Library);
-        let by_model = call(&mut self.model, &Model);
+    fn call<T: PartialEq + Debug>(&mut self, what: &str, call: impl Fn(&mut Machine, &Calls) -> T) -> Checked<T> {
+        let by_library = call(&mut self.library, &LIBRARY);
+        let by_model = call(&mut self.model, &MODEL);
         same(what, ("model", &by_model), ("library", &by_library))?;
         same(what, ("model", &self.model), ("library", &self.library))?;
         Ok(by_library)

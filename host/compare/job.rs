@@ -33,7 +33,10 @@ pub struct Start {
 impl Job {
     /// Document 01's records of kinds 11 to 17, and the oracle's of kinds 32 to 35.
     pub fn file(&self) -> Vec<u8> {
-        let mut file = JobFile { opening: self.opening(), budget: self.budget }.write();
+        let opening = Opening { ram: vec![], ..self.opening() };
+        let mut file = JobFile { opening, budget: self.budget }.write().expect("few slots, of opcodes below 65,536");
+        // may be more than a job file holds, which the oracle takes
+        self.ram.iter().for_each(|&(address, value)| put(&mut file, 16, &[&words(&[address, value])]));
         if let Some(start) = &self.start {
             start.stack.iter().for_each(|word| put(&mut file, 32, &[&word.to_le_bytes()]));
             start.jumps.iter().for_each(|&(origin, destination)| put(&mut file, 33, &[&words(&[origin, destination])]));

@@ -1,58 +1,30 @@
 //! What a call is handed, in the shape of the library's C interface.
 use kixombu::exports;
-pub use kixombu::exports::{answer, ending, register, Code, Memory, LONGEST, STEP_BYTES};
+pub use kixombu::exports::{answer, ending, register, Code, Memory, MemoryView, LONGEST, STEP_BYTES};
 
 pub type Answer = [u64; answer::ALL];
 
-/// The calls: the library's and the model's (`model::Model`). Each gives the number, 0 where not refused.
-pub trait Calls {
-    fn open(&self, registers: &mut [u64], answer: &mut [u64], digest: &[u64], cells: u64, code: Code, memory: Memory) -> u64;
-    fn step(&self, registers: &mut [u64], answer: &mut [u64], code: Code, memory: Memory, calls: &mut [u8]) -> u64;
-    fn run(&self, registers: &mut [u64], answer: &mut [u64], budget: u64, code: Code, memory: Memory) -> u64;
-    fn trace_execution(
-        &self,
-        registers: &mut [u64],
-        answer: &mut [u64],
-        budget: u64,
-        code: Code,
-        memory: Memory,
-        log: &mut [u8],
-    ) -> u64;
-    fn helper_variables(&self, registers: &[u64], helpers: &mut [u64], code: Code, memory: Memory) -> u64;
+/// The calls of one side: the library's or the model's (`model::MODEL`). Each gives the number, 0 where not refused.
+#[derive(Clone, Copy)]
+pub struct Calls {
+    pub open: fn(Words, Words, &[u64], u64, Code, Memory) -> u64,
+    pub step: fn(Words, Words, Code, Memory, &mut [u8]) -> u64,
+    pub run: fn(Words, Words, u64, Code, Memory) -> u64,
+    pub trace_execution: fn(Words, Words, u64, Code, Memory, &mut [u8]) -> u64,
+    pub helper_variables: fn(&[u64], Words, Code, MemoryView) -> u64,
 }
+
+/// Registers, answer or helper variables.
+type Words<'a> = &'a mut [u64];
 
 /// The proved library.
-pub struct Library;
-
-impl Calls for Library {
-    fn open(&self, registers: &mut [u64], answer: &mut [u64], digest: &[u64], cells: u64, code: Code, memory: Memory) -> u64 {
-        exports::open(registers, answer, digest, cells, code, memory)
-    }
-
-    fn step(&self, registers: &mut [u64], answer: &mut [u64], code: Code, memory: Memory, calls: &mut [u8]) -> u64 {
-        exports::step(registers, answer, code, memory, calls)
-    }
-
-    fn run(&self, registers: &mut [u64], answer: &mut [u64], budget: u64, code: Code, memory: Memory) -> u64 {
-        exports::run(registers, answer, budget, code, memory)
-    }
-
-    fn trace_execution(
-        &self,
-        registers: &mut [u64],
-        answer: &mut [u64],
-        budget: u64,
-        code: Code,
-        memory: Memory,
-        log: &mut [u8],
-    ) -> u64 {
-        exports::trace_execution(registers, answer, budget, code, memory, log)
-    }
-
-    fn helper_variables(&self, registers: &[u64], helpers: &mut [u64], code: Code, memory: Memory) -> u64 {
-        exports::helper_variables(registers, helpers, code, memory.view())
-    }
-}
+pub const LIBRARY: Calls = Calls {
+    open: exports::open,
+    step: exports::step,
+    run: exports::run,
+    trace_execution: exports::trace_execution,
+    helper_variables: exports::helper_variables,
+};
 
 /// Everything that is lent but for answer and bytes, owned.
 #[derive(Clone, Debug, Default, PartialEq, Eq)]
@@ -141,39 +113,39 @@ impl Machine {
         ]
     }
 
-    pub fn open(&mut self, by: &dyn Calls, digest: &[u64], cells: u64) -> Answer {
+    pub fn open(&mut self, by: &Calls, digest: &[u64], cells: u64) -> Answer {
         let mut answer = [u64::MAX; answer::ALL];
         let (registers, code, memory) = self.parts();
-        let number = by.open(registers, &mut answer, digest, cells, code, memory);
+        let number = (by.open)(registers, &mut answer, digest, cells, code, memory);
         numbered(answer, number)
     }
 
-    pub fn step(&mut self, by: &dyn Calls, calls: &mut [u8]) -> Answer {
+    pub fn step(&mut self, by: &Calls, calls: &mut [u8]) -> Answer {
         let mut answer = [u64::MAX; answer::ALL];
         let (registers, code, memory) = self.parts();
-        let number = by.step(registers, &mut answer, code, memory, calls);
+        let number = (by.step)(registers, &mut answer, code, memory, calls);
         numbered(answer, number)
     }
 
-    pub fn run(&mut self, by: &dyn Calls, budget: u64) -> Answer {
+    pub fn run(&mut self, by: &Calls, budget: u64) -> Answer {
         let mut answer = [u64::MAX; answer::ALL];
         let (registers, code, memory) = self.parts();
-        let number = by.run(registers, &mut answer, budget, code, memory);
+        let number = (by.run)(registers, &mut answer, budget, code, memory);
         numbered(answer, number)
     }
 
-    pub fn trace_execution(&mut self, by: &dyn Calls, budget: u64, log: &mut [u8]) -> Answer {
+    pub fn trace_execution(&mut self, by: &Calls, budget: u64, log: &mut [u8]) -> Answer {
         let mut answer = [u64::MAX; answer::ALL];
         let (registers, code, memory) = self.parts();
-        let number = by.trace_execution(registers, &mut answer, budget, code, memory, log);
+        let number = (by.trace_execution)(registers, &mut answer, budget, code, memory, log);
         numbered(answer, number)
     }
 
     /// The number and the six words.
-    pub fn helper_variables(&mut self, by: &dyn Calls) -> (u64, [u64; 6]) {
+    pub fn helper_variables(&mut self, by: &Calls) -> (u64, [u64; 6]) {
         let mut helpers = [u64::MAX; 6];
         let (registers, code, memory) = self.parts();
-        let number = by.helper_variables(registers, &mut helpers, code, memory);
+        let number = (by.helper_variables)(registers, &mut helpers, code, memory.view());
         (number, helpers)
     }
 }

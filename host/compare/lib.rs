@@ -17,4 +17,11 @@ pub mod tip5;
 mod tip5_constants;
 pub mod work;
 
-pub use kixombu::instructions;
+pub mod instructions {
+    pub use kixombu::instructions::*;
+
+    /// The instruction of a name, which there must be.
+    pub fn named(name: &str) -> &'static Instruction {
+        kixombu::instructions::named(name).expect(name)
+    }
+}

@@ -6,7 +6,7 @@ mod place_a;
 pub mod replay;
 
 use crate::instructions::decode;
-use crate::lent::{answer, ending, register, Calls, Code, Memory, STEP_BYTES};
+use crate::lent::{answer, ending, register, Calls, Code, Memory, MemoryView, STEP_BYTES};
 use crate::tip5::State;
 use kixombu::{bytes_of, Record};
 use place_a::{place_a, Handed};
@@ -25,7 +25,7 @@ pub fn refuse<T>(number: u64, words: [u64; 3]) -> Result<T, Refusal> {
 /// The machine's state: the used words of what is lent, and the registers.
 #[derive(Clone)]
 pub struct Vm {
-    clock: u64,
+    clock: u32,
     pointer: u64,
     halted: bool,
     stack: Vec<u64>,
@@ -58,11 +58,12 @@ impl Room {
 }
 
 impl Vm {
-    fn new(registers: &[u64], memory: &Memory) -> Vm {
+    fn new(registers: &[u64], memory: MemoryView) -> Vm {
         let count = |place: usize| registers[place] as usize;
         let pairs = |left: &[u64], right: &[u64], n: usize| left[..n].iter().copied().zip(right[..n].iter().copied()).collect();
         Vm {
-            clock: registers[register::CLOCK],
+            // below 2^32 by place A
+            clock: registers[register::CLOCK] as u32,
             pointer: registers[register::POINTER],
             halted: registers[register::HALTED] == 1,
             stack: memory.op_stack[..count(register::DEPTH)].to_vec(),
@@ -78,7 +79,7 @@ impl Vm {
 
     /// Back into what is lent. The words of a sponge that is not set stay.
     fn store(&self, registers: &mut [u64], memory: &mut Memory) {
-        registers[register::CLOCK] = self.clock;
+        registers[register::CLOCK] = self.clock.into();
         registers[register::POINTER] = self.pointer;
         registers[register::DEPTH] = self.stack.len() as u64;
         registers[register::JUMPS] = self.jumps.len() as u64;
@@ -142,7 +143,7 @@ impl Vm {
             (31, after.jumps.len() > room.jumps),
             (32, after.ram.len() > room.cells),
             (33, after.output.len() > room.output),
-            (34, self.clock == 0xffff_ffff),
+            (34, self.clock == u32::MAX),
         ] {
             if over {
                 return refuse(number, [0; 3]);
@@ -170,70 +171,59 @@ impl Vm {
     }
 }
 
-pub struct Model;
+/// The calls as the library has them.
+pub const MODEL: Calls = Calls {
+    open,
+    step,
+    run: |registers, answer, budget, code, memory| run(registers, answer, budget, code, memory, None),
+    trace_execution: |registers, answer, budget, code, memory, log| run(registers, answer, budget, code, memory, Some(log)),
+    helper_variables,
+};
 
-impl Calls for Model {
-    fn open(&self, registers: &mut [u64], answer: &mut [u64], digest: &[u64], cells: u64, code: Code, memory: Memory) -> u64 {
-        let number = place_a(&Handed::Open { registers, answer, digest, cells }, code, &memory);
-        if number == 0 {
-            memory.op_stack.fill(0);
-            memory.origins.fill(0);
-            memory.destinations.fill(0);
-            for i in 0..5 {
-                memory.op_stack[i] = digest[4 - i];
-            }
-            registers.fill(0);
-            registers[register::DEPTH] = 16;
-            registers[register::CELLS] = cells;
+fn open(registers: &mut [u64], answer: &mut [u64], digest: &[u64], cells: u64, code: Code, memory: Memory) -> u64 {
+    let number = place_a(&Handed::Open { registers, answer, digest, cells }, code, memory.view());
+    if number == 0 {
+        memory.op_stack.fill(0);
+        memory.origins.fill(0);
+        memory.destinations.fill(0);
+        for i in 0..5 {
+            memory.op_stack[i] = digest[4 - i];
         }
-        answered(answer, ending::DONE, refused(number), 0, 0)
+        registers.fill(0);
+        registers[register::DEPTH] = 16;
+        registers[register::CELLS] = cells;
     }
+    answered(answer, ending::DONE, refused(number), 0, 0)
+}
 
-    fn step(&self, registers: &mut [u64], answer: &mut [u64], code: Code, mut memory: Memory, calls: &mut [u8]) -> u64 {
-        let number = place_a(&Handed::Step { registers, answer, calls }, code, &memory);
-        if number != 0 {
-            return answered(answer, 0, refused(number), 0, 0);
-        }
-        let mut vm = Vm::new(registers, &memory);
-        let stepped = vm.step(code, &Room::of(&memory));
-        vm.store(registers, &mut memory);
-        match stepped {
-            Ok(records) => {
-                let bytes = bytes_of(&records);
-                calls[..bytes.len()].copy_from_slice(&bytes);
-                answered(answer, ending::DONE, Ok(()), 1, bytes.len())
-            }
-            Err(refusal) => answered(answer, 0, Err(refusal), 0, 0),
-        }
+fn step(registers: &mut [u64], answer: &mut [u64], code: Code, mut memory: Memory, calls: &mut [u8]) -> u64 {
+    let number = place_a(&Handed::Step { registers, answer, calls }, code, memory.view());
+    if number != 0 {
+        return answered(answer, 0, refused(number), 0, 0);
     }
+    let mut vm = Vm::new(registers, memory.view());
+    let stepped = vm.step(code, &Room::of(&memory));
+    vm.store(registers, &mut memory);
+    match stepped {
+        Ok(records) => {
+            let bytes = bytes_of(&records);
+            calls[..bytes.len()].copy_from_slice(&bytes);
+            answered(answer, ending::DONE, Ok(()), 1, bytes.len())
+        }
+        Err(refusal) => answered(answer, 0, Err(refusal), 0, 0),
+    }
+}
 
-    fn run(&self, registers: &mut [u64], answer: &mut [u64], budget: u64, code: Code, memory: Memory) -> u64 {
-        run(registers, answer, budget, code, memory, None)
+fn helper_variables(registers: &[u64], helpers: &mut [u64], code: Code, memory: MemoryView) -> u64 {
+    let number = place_a(&Handed::Helpers { registers, helpers }, code, memory);
+    if helpers.len() == 6 {
+        helpers.fill(0);
     }
-
-    fn trace_execution(
-        &self,
-        registers: &mut [u64],
-        answer: &mut [u64],
-        budget: u64,
-        code: Code,
-        memory: Memory,
-        log: &mut [u8],
-    ) -> u64 {
-        run(registers, answer, budget, code, memory, Some(log))
+    if number == 0 {
+        let words = Vm::new(registers, memory).helpers(code);
+        helpers[..words.len()].copy_from_slice(&words);
     }
-
-    fn helper_variables(&self, registers: &[u64], helpers: &mut [u64], code: Code, memory: Memory) -> u64 {
-        let number = place_a(&Handed::Helpers { registers, helpers }, code, &memory);
-        if helpers.len() == 6 {
-            helpers.fill(0);
-        }
-        if number == 0 {
-            let words = Vm::new(registers, &memory).helpers(code);
-            helpers[..words.len()].copy_from_slice(&words);
-        }
-        number
-    }
+    number
 }
 
 /// `run`, and with a log `trace_execution`: halted is tried first, then spent, then whether the log is full, then a step.
@@ -245,12 +235,12 @@ fn run(
     mut memory: Memory,
     mut log: Option<&mut [u8]>,
 ) -> u64 {
-    let number = place_a(&Handed::Run { registers, answer, log: log.as_deref().unwrap_or(&[]) }, code, &memory);
+    let number = place_a(&Handed::Run { registers, answer, log: log.as_deref().unwrap_or(&[]) }, code, memory.view());
     if number != 0 {
         return answered(answer, 0, refused(number), 0, 0);
     }
     let room = Room::of(&memory);
-    let mut vm = Vm::new(registers, &memory);
+    let mut vm = Vm::new(registers, memory.view());
     let (mut steps, mut bytes) = (0, 0);
     let (ending, end) = loop {
         if vm.halted {

@@ -5,7 +5,7 @@ use kixombu::Record;
 use std::io::{BufRead, BufReader};
 use std::path::{Path, PathBuf};
 use std::process::{exit, Command, Stdio};
-use std::str::SplitAsciiWhitespace;
+use std::str::{FromStr, SplitAsciiWhitespace};
 
 /// The state that the oracle prints. RAM is ascending by address.
 #[derive(Clone, Debug, Default, PartialEq, Eq)]
@@ -64,11 +64,11 @@ pub struct Oracle {
 }
 
 impl Oracle {
-    /// The program that the environment variable ORACLE names; job files go into a folder of their own.
+    /// The program that the environment variable ORACLE names, as `host/program` sets it; job files go into a folder of their own.
     pub fn new(folder: &str) -> Oracle {
         let program = std::env::var_os("ORACLE").map(PathBuf::from).unwrap_or_default();
         if !program.is_file() {
-            eprintln!("ORACLE must name the oracle's program (oracle/target/release/oracle, built with cargo); it is no part of this repository");
+            eprintln!("ORACLE must name the original Rust's program; the run scripts set it, by host/program");
             exit(2);
         }
         let program = program.canonicalize().expect("the oracle's path");
@@ -153,7 +153,7 @@ impl<'a> Words<'a> {
         assert_eq!(self.word(), word, "the oracle's line");
     }
 
-    fn number(&mut self) -> u64 {
+    fn number<N: FromStr>(&mut self) -> N {
         let word = self.word();
         word.parse().unwrap_or_else(|_| panic!("a number on the oracle's line: {word}"))
     }
@@ -197,15 +197,15 @@ impl<'a> Words<'a> {
     fn record(&mut self) -> Record {
         match self.word() {
             "reset" => Record::Reset,
-            "tip5" => Record::Tip5(self.number(), (0..96).map(|_| self.number()).collect()),
+            "tip5" => Record::Tip5 { opcode: self.number(), states: Box::new(core::array::from_fn(|_| self.numbers())) },
             "u32" => Record::U32 { opcode: self.number(), left: self.number(), right: self.number() },
             "stack" => {
-                let [clock, pointer] = self.numbers();
+                let (clock, pointer) = (self.number(), self.number());
                 let write = self.word() == "w";
                 Record::Stack { clock, pointer, write, value: self.number() }
             }
             "ram" => {
-                let [clock, address, value] = self.numbers();
+                let (clock, address, value) = (self.number(), self.number(), self.number());
                 Record::Ram { clock, address, value, write: self.word() == "w" }
             }
             other => panic!("a call of the oracle: {other}"),
@@ -218,7 +218,7 @@ fn read_line(line: &str, report: &mut Report) {
     match words.word() {
         "open" => report.opened = Some(words.state()),
         "step" => {
-            words.number();
+            words.word();
             words.expect("hv");
             let helpers = words.numbers();
             let result = match words.word() {
@@ -230,9 +230,8 @@ fn read_line(line: &str, report: &mut Report) {
                     let number = words.number();
                     words.word();
                     let mut carried = [0; 3];
-                    for i in 0..words.number() {
-                        carried[i as usize] = words.number();
-                    }
+                    let count: usize = words.number();
+                    carried[..count].fill_with(|| words.number());
                     Err(Refused { number, words: carried })
                 }
             };

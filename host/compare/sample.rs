@@ -6,9 +6,8 @@ use host::damaged::{list, Damaged};
 use host::entries::{decode_all, encode_all, fits, most, Entry, Full};
 use host::instructions::{Instruction, ALL};
 use host::job::{Before, Job, Room};
-use host::lent::Library;
-use host::lent::{answer, register, Calls, Machine, STEP_BYTES};
-use host::model::Model;
+use host::lent::{answer, register, Calls, Machine, LIBRARY, STEP_BYTES};
+use host::model::MODEL;
 use host::oracle::{End, Oracle, Refused, Report, State};
 use host::random::Random;
 use host::states::{broken, single};
@@ -78,9 +77,9 @@ fn damaged(file: &str) {
 fn full(damaged: &Damaged) -> Full {
     let before = damaged.machine.clone();
     let mut after = before.clone();
-    let (helper_number, helpers) = after.helper_variables(&Model);
+    let (helper_number, helpers) = after.helper_variables(&MODEL);
     let mut calls = vec![0; damaged.room];
-    let answer = after.step(&Model, &mut calls);
+    let answer = after.step(&MODEL, &mut calls);
     calls.truncate(answer[answer::BYTES] as usize);
     let words = answer[answer::WORDS..answer::STEPS].try_into().unwrap();
     let entry = Entry { before, number: answer[answer::NUMBER], words, after, helpers, calls };
@@ -227,8 +226,8 @@ fn check(file: &str) {
         exit(1)
     };
     for (i, entry) in entries.iter().enumerate() {
-        for (name, by) in [("model", &Model as &dyn Calls), ("library", &Library)] {
-            let found = taken(entry, by);
+        for (name, by) in [("model", MODEL), ("library", LIBRARY)] {
+            let found = taken(entry, &by);
             if found != *entry {
                 println!("entry {i}, {name}:\nwanted {entry:?}\nfound  {found:?}");
                 exit(1)
@@ -239,7 +238,7 @@ fn check(file: &str) {
 }
 
 /// The entry as a step by this side would have it.
-fn taken(entry: &Entry, by: &dyn Calls) -> Entry {
+fn taken(entry: &Entry, by: &Calls) -> Entry {
     let mut machine = entry.before.clone();
     let (_, helpers) = machine.helper_variables(by);
     let mut buffer = vec![0; STEP_BYTES];

@@ -1,47 +1,21 @@
 //! The library with step by the register record.
 use host::guard::Guarded;
-use host::lent::{register, Calls, Code, Library, Memory};
+use host::lent::{register, Calls, Code, Memory, LIBRARY};
 use kixombu::exports::{step_registers, Registers};
 
 /// The library; step goes by the record where the words fit into one.
-pub struct ByRecord;
+pub const BY_RECORD: Calls = Calls { step, ..LIBRARY };
 
-impl Calls for ByRecord {
-    fn open(&self, registers: &mut [u64], answer: &mut [u64], digest: &[u64], cells: u64, code: Code, memory: Memory) -> u64 {
-        Library.open(registers, answer, digest, cells, code, memory)
-    }
-
-    fn step(&self, registers: &mut [u64], answer: &mut [u64], code: Code, memory: Memory, calls: &mut [u8]) -> u64 {
-        let Some(record) = Registers::from_words(registers) else {
-            return Library.step(registers, answer, code, memory, calls);
-        };
-        let mut lent = Guarded::new(guard());
-        lent.set(&[record]);
-        let number = step_registers(&mut lent.slice()[0], answer, code, memory, calls);
-        assert!(lent.is_intact(), "record: a guard was written to");
-        registers.copy_from_slice(&lent.inside()[0].to_words());
-        number
-    }
-
-    fn run(&self, registers: &mut [u64], answer: &mut [u64], budget: u64, code: Code, memory: Memory) -> u64 {
-        Library.run(registers, answer, budget, code, memory)
-    }
-
-    fn trace_execution(
-        &self,
-        registers: &mut [u64],
-        answer: &mut [u64],
-        budget: u64,
-        code: Code,
-        memory: Memory,
-        log: &mut [u8],
-    ) -> u64 {
-        Library.trace_execution(registers, answer, budget, code, memory, log)
-    }
-
-    fn helper_variables(&self, registers: &[u64], helpers: &mut [u64], code: Code, memory: Memory) -> u64 {
-        Library.helper_variables(registers, helpers, code, memory)
-    }
+fn step(registers: &mut [u64], answer: &mut [u64], code: Code, memory: Memory, calls: &mut [u8]) -> u64 {
+    let Some(record) = Registers::from_words(registers) else {
+        return (LIBRARY.step)(registers, answer, code, memory, calls);
+    };
+    let mut lent = Guarded::new(guard());
+    lent.set(&[record]);
+    let number = step_registers(&mut lent.slice()[0], answer, code, memory, calls);
+    assert!(lent.is_intact(), "record: a guard was written to");
+    registers.copy_from_slice(&lent.inside()[0].to_words());
+    number
 }
 
 /// A record that no step leaves.

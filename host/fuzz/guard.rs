@@ -19,7 +19,7 @@ impl Arena {
     }
 
     /// Calls on a copy of the input, and gives the number.
-    pub fn call(&mut self, export: Export, input: &Input, by: &dyn Calls) -> u64 {
+    pub fn call(&mut self, export: Export, input: &Input, by: &Calls) -> u64 {
         for (guarded, slice) in self.slices.iter_mut().zip(input.machine.slices()) {
             guarded.set(slice);
         }
@@ -32,11 +32,11 @@ impl Arena {
         let memory = Memory { op_stack, origins, destinations, addresses, values, output };
         let (answer, digest, bytes) = (self.answer.slice(), self.digest.slice(), self.bytes.slice());
         match export {
-            Export::Open => by.open(registers, answer, digest, input.cells, code, memory),
-            Export::Step => by.step(registers, answer, code, memory, bytes),
-            Export::Run => by.run(registers, answer, input.budget, code, memory),
-            Export::Trace => by.trace_execution(registers, answer, input.budget, code, memory, bytes),
-            Export::Helpers => by.helper_variables(registers, answer, code, memory),
+            Export::Open => (by.open)(registers, answer, digest, input.cells, code, memory),
+            Export::Step => (by.step)(registers, answer, code, memory, bytes),
+            Export::Run => (by.run)(registers, answer, input.budget, code, memory),
+            Export::Trace => (by.trace_execution)(registers, answer, input.budget, code, memory, bytes),
+            Export::Helpers => (by.helper_variables)(registers, answer, code, memory.view()),
         }
     }
 

@@ -158,7 +158,7 @@ fn room(job: &Job, steps: usize, random: &mut Random) -> Room {
 
 fn opened(job: &Job, room: Room, random: &mut Random) -> Machine {
     let mut machine = job.unopened(room, random);
-    let answer = machine.open(&host::model::Model, &job.digest, job.ram.len() as u64);
+    let answer = machine.open(&host::model::MODEL, &job.digest, job.ram.len() as u64);
     assert_eq!(answer[answer::NUMBER], 0);
     machine
 }

@@ -1,7 +1,7 @@
 //! The longest slices: one of the limit's length is taken, one longer is refused with 1.
-use crate::by_record::ByRecord;
-use host::lent::{answer, register, Calls, Library, Machine, LONGEST, STEP_BYTES};
-use host::model::Model;
+use crate::by_record::BY_RECORD;
+use host::lent::{answer, register, Machine, LIBRARY, LONGEST, STEP_BYTES};
+use host::model::MODEL;
 
 /// Slices that have to be of one length go together; the digests are in fives.
 const GROUPS: [(&[usize], usize, usize); 7] = [
@@ -40,7 +40,7 @@ fn small() -> Machine {
 
 /// Each call on the machine; one step behind it is halted.
 fn calls(machine: &mut Machine, buffer: usize, expected: u64) {
-    for by in [&Library as &dyn Calls, &Model] {
+    for by in [&LIBRARY, &MODEL] {
         let (number, _) = machine.helper_variables(by);
         assert_eq!(number, expected);
         assert_eq!(machine.run(by, 0)[answer::NUMBER], expected);
@@ -52,7 +52,7 @@ fn calls(machine: &mut Machine, buffer: usize, expected: u64) {
 /// The calls that take a buffer.
 fn buffers(machine: &mut Machine, length: usize, expected: u64) {
     let mut buffer = vec![0; length];
-    for by in [&Library as &dyn Calls, &ByRecord, &Model] {
+    for by in [&LIBRARY, &BY_RECORD, &MODEL] {
         let before = machine.registers.clone();
         assert_eq!(machine.step(by, &mut buffer)[answer::NUMBER], expected);
         machine.registers = before.clone();

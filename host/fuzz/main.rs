@@ -5,11 +5,11 @@ mod guard;
 mod input;
 mod lengths;
 
-use by_record::ByRecord;
+use by_record::BY_RECORD;
 use guard::Arena;
 use host::instructions::{decode, named};
-use host::lent::{register, Calls, Library};
-use host::model::Model;
+use host::lent::{register, LIBRARY};
+use host::model::MODEL;
 use host::random::Random;
 use host::work::{self, fail, Watched};
 use input::{inputs, Export, Input, EXPORTS};
@@ -53,8 +53,8 @@ impl Fuzz {
 
 /// The library twice beside the model; the second time with other guards, and with step by the register record.
 fn compare(export: Export, input: &Input, [first, second, expected]: &mut [Arena; 3]) -> Result<u64, String> {
-    let number = expected.call(export, input, &Model);
-    for (arena, library) in [(first, &Library as &dyn Calls), (second, &ByRecord)] {
+    let number = expected.call(export, input, &MODEL);
+    for (arena, library) in [(first, &LIBRARY), (second, &BY_RECORD)] {
         let found = arena.call(export, input, library);
         if found != number {
             return Err(format!("{found} instead of {number}"));

@@ -118,7 +118,7 @@ fn case(name: String, all: impl Iterator<Item = Record>, ram: Vec<(u64, u64)>, c
 fn records(name: &str, cells: usize, record: Numbered) -> Case {
     let all = (0..MOST).map(|clock| {
         let (address, write) = record(clock);
-        Record::Ram { clock, address, value: if write { clock } else { 0 }, write }
+        Record::Ram { clock: clock as u32, address, value: if write { clock } else { 0 }, write }
     });
     case(name.to_string(), all, vec![], cells, 0)
 }
@@ -128,19 +128,21 @@ fn stack() -> Case {
     let all = (0..MOST).map(|clock| {
         let (wave, i) = (clock / 2000, clock % 2000);
         let (place, write) = if i < 1000 { (i, true) } else { (1999 - i, false) };
-        Record::Stack { clock, pointer: place + 16, write, value: wave * 1000 + place }
+        Record::Stack { clock: clock as u32, pointer: place + 16, write, value: wave * 1000 + place }
     });
     case("stack, waves of 1,000 words".to_string(), all, vec![], 0, 1000)
 }
 
 /// Ten words pushed, hashed and five taken off again.
 fn hashing() -> Case {
-    let states: Vec<u64> = (0..96).collect();
-    let all = (0..).flat_map(move |round: u64| {
-        let record =
-            move |i: u64, pointer: u64, write: bool| Record::Stack { clock: 16 * round + i, pointer, write, value: pointer };
+    let states = Box::new(std::array::from_fn(|i| [i as u64; 16]));
+    let all = (0..).flat_map(move |round: u32| {
+        let record = move |i: u32, pointer: u32, write: bool| {
+            let pointer = pointer.into();
+            Record::Stack { clock: 16 * round + i, pointer, write, value: pointer }
+        };
         let pushed = (0..10).map(move |i| record(i, 16 + i, true));
-        let hashed = [Record::Tip5(18, states.clone())].into_iter();
+        let hashed = [Record::Tip5 { opcode: 18, states: states.clone() }].into_iter();
         let taken = (0..10).map(move |i| record(10 + i / 2, 25 - i, false));
         pushed.chain(hashed).chain(taken)
     });
@@ -156,7 +158,7 @@ fn memory(addresses: u64) -> Case {
         if clock % 2 == 0 {
             held[place] = clock;
         }
-        Record::Ram { clock, address: scattered(place as u64), value: held[place], write: clock % 2 == 0 }
+        Record::Ram { clock: clock as u32, address: scattered(place as u64), value: held[place], write: clock % 2 == 0 }
     });
     case(format!("RAM, {addresses} addresses, writes and reads in turn"), all, vec![], addresses as usize, 0)
 }
@@ -167,7 +169,7 @@ fn opening(cells: u64) -> Case {
     let ram: Vec<(u64, u64)> = (0..cells).map(|i| (scattered(i), i)).collect();
     let all = (0..MOST).map(|clock| {
         let (address, value) = ram[random.index(ram.len())];
-        Record::Ram { clock, address, value, write: false }
+        Record::Ram { clock: clock as u32, address, value, write: false }
     });
     let built: Vec<Record> = all.collect();
     case(format!("RAM, reads of {cells} cells of the opening"), built.into_iter(), ram, cells as usize, 0)

@@ -45,7 +45,7 @@ impl Base {
         let (mut held, mut stack, mut all) = (ram.clone(), vec![], vec![]);
         let mut clock = 0;
         for _ in 0..random.between(1, most_records) {
-            clock += random.below(3);
+            clock += random.below(3) as u32;
             let pointer = stack.len() as u64 + 16;
             let (address, value) = (if is_long { spread(random) } else { near(random) }, random.word());
             let cell = held.iter_mut().find(|cell| cell.0 == address);
@@ -78,13 +78,13 @@ impl Base {
             match record.expect("the log is sound") {
                 Record::Stack { clock, pointer, .. } => {
                     words = words.max(pointer as usize - 15);
-                    last_clock = clock;
+                    last_clock = clock.into();
                 }
                 Record::Ram { clock, address, write, .. } => {
                     if write && !held.contains(&address) {
                         held.push(address);
                     }
-                    last_clock = clock;
+                    last_clock = clock.into();
                 }
                 _ => {}
             }

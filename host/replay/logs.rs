@@ -198,7 +198,7 @@ impl Checked {
             reads.swap_remove(random.index(reads.len()));
         }
         for (at, clock, value) in reads {
-            self.altered_read(at, clock, value, counts, random, watched)
+            self.altered_read(at, clock.into(), value, counts, random, watched)
                 .map_err(|text| format!("the read at byte {at} altered, {text}"))?;
         }
         Ok(())

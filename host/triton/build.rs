@@ -10,8 +10,7 @@ fn main() {
     println!("cargo:rerun-if-changed={}", library.display());
     println!("cargo:rustc-link-search=native={folder}");
     if !Path::new(&folder).is_absolute() || !library.is_file() {
-        panic!(
-            "no libexports.a in {folder}: make it by `rt staticlib exports`, or set EXPORTS to the absolute path of its folder"
-        );
+        let how = "make it by `rt staticlib exports`, or set EXPORTS to the absolute path of its folder";
+        println!("cargo::error=no libexports.a in {folder}: {how}");
     }
 }

@@ -366,7 +366,7 @@ fn as_u32(word: u64) -> Result<u64, Refusal> {
     }
 }
 
-fn u32_call(opcode: u64, left: u64, right: u64) -> Record {
+fn u32_call(opcode: u16, left: u64, right: u64) -> Record {
     Record::U32 { opcode, left, right }
 }
 
@@ -374,8 +374,8 @@ fn absorbed(sponge: State, words: [u64; 10]) -> State {
     core::array::from_fn(|i| if i < 10 { words[i] } else { sponge[i] })
 }
 
-fn permute(opcode: u64, state: State, calls: &mut Vec<Record>) -> State {
+fn permute(opcode: u16, state: State, calls: &mut Vec<Record>) -> State {
     let states = trace(state);
-    calls.push(Record::Tip5(opcode, states.concat()));
+    calls.push(Record::Tip5 { opcode, states: Box::new(states) });
     states[5]
 }

@@ -1,7 +1,7 @@
 //! Place A: what is wrong with what a call is handed, by numbers 1 to 5, each tried over everything before the next.
 use crate::field::P;
 use crate::instructions::decode;
-use crate::lent::{answer, register, Code, Memory, LONGEST, STEP_BYTES};
+use crate::lent::{answer, register, Code, MemoryView, LONGEST, STEP_BYTES};
 
 /// What a call takes besides code and memory.
 pub enum Handed<'a> {
@@ -12,7 +12,7 @@ pub enum Handed<'a> {
 }
 
 /// The number; 0 where nothing is wrong.
-pub fn place_a(handed: &Handed, code: Code, memory: &Memory) -> u64 {
+pub fn place_a(handed: &Handed, code: Code, memory: MemoryView) -> u64 {
     if !lengths_fit(handed, code, memory) {
         return 1;
     }
@@ -66,7 +66,7 @@ pub fn place_a(handed: &Handed, code: Code, memory: &Memory) -> u64 {
     0
 }
 
-fn lengths_fit(handed: &Handed, code: Code, memory: &Memory) -> bool {
+fn lengths_fit(handed: &Handed, code: Code, memory: MemoryView) -> bool {
     let own = match *handed {
         Handed::Open { registers, answer, digest, .. } => {
             answer.len() == answer::ALL && registers.len() == register::ALL && digest.len() == 5

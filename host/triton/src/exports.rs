@@ -12,18 +12,29 @@ pub use crate::registers::Registers;
 
 /// Places in the register slice.
 pub mod register {
+    /// Below 2^32.
     pub const CLOCK: usize = 0;
+    /// The instruction pointer.
     pub const POINTER: usize = 1;
+    /// Used words of the op stack.
     pub const DEPTH: usize = 2;
+    /// Used entries of the jump stack.
     pub const JUMPS: usize = 3;
+    /// Used cells of RAM.
     pub const CELLS: usize = 4;
+    /// Words of output.
     pub const OUTPUTS: usize = 5;
+    /// Words of public input that were taken.
     pub const PUBLICS: usize = 6;
+    /// Words of secret input that were taken.
     pub const SECRETS: usize = 7;
+    /// Secret digests that were taken.
     pub const DIGESTS: usize = 8;
+    /// 0 or 1.
     pub const HALTED: usize = 9;
+    /// 0 or 1.
     pub const SPONGE_SET: usize = 10;
-    /// The first of sixteen words.
+    /// The first of the sponge's sixteen words.
     pub const SPONGE: usize = 11;
     /// How many words there are.
     pub const ALL: usize = 27;
@@ -31,11 +42,15 @@ pub mod register {
 
 /// Places in the answer slice.
 pub mod answer {
+    /// How the call ended: one of [`ending`](super::ending).
     pub const ENDING: usize = 0;
+    /// The refusal's number, 0 where the call is not refused.
     pub const NUMBER: usize = 1;
     /// The first of the three words that a refusal carries.
     pub const WORDS: usize = 2;
+    /// How many steps succeeded.
     pub const STEPS: usize = 5;
+    /// How many bytes of records were written.
     pub const BYTES: usize = 6;
     /// How many words there are.
     pub const ALL: usize = 7;
@@ -45,16 +60,21 @@ pub mod answer {
 pub mod ending {
     /// Opened, taken or halted.
     pub const DONE: u64 = 0;
+    /// The budget is spent.
     pub const SPENT: u64 = 1;
     /// The log is full.
     pub const FULL: u64 = 2;
+    /// The answer has the number and its words.
     pub const REFUSED: u64 = 3;
 }
 
 /// Places in replay's answer slice.
 pub mod replayed {
+    /// The refusal's number, 0 where the call is not refused.
     pub const NUMBER: usize = 0;
+    /// How many words the stack has.
     pub const DEPTH: usize = 1;
+    /// Used cells of RAM.
     pub const CELLS: usize = 2;
     /// How many words there are.
     pub const ALL: usize = 3;
@@ -69,36 +89,54 @@ pub const STEP_BYTES: usize = 1024;
 /// The program and the inputs.
 #[derive(Clone, Copy, Debug)]
 pub struct Code<'a> {
+    /// One for each slot.
     pub opcodes: &'a [u64],
+    /// As many.
     pub arguments: &'a [u64],
+    /// The public input.
     pub public: &'a [u64],
+    /// The secret input.
     pub secret: &'a [u64],
+    /// The secret digests, five words each.
     pub digests: &'a [u64],
 }
 
 /// What is lent to be changed.
 #[derive(Debug)]
 pub struct Memory<'a> {
+    /// At least sixteen words, bottom first.
     pub op_stack: &'a mut [u64],
+    /// Of the jump stack's entries, bottom first.
     pub origins: &'a mut [u64],
+    /// As many.
     pub destinations: &'a mut [u64],
+    /// Of RAM's cells.
     pub addresses: &'a mut [u64],
+    /// As many.
     pub values: &'a mut [u64],
+    /// The words that were written out.
     pub output: &'a mut [u64],
 }
 
 /// The same, only to be read.
 #[derive(Clone, Copy, Debug)]
 pub struct MemoryView<'a> {
+    /// At least sixteen words, bottom first.
     pub op_stack: &'a [u64],
+    /// Of the jump stack's entries, bottom first.
     pub origins: &'a [u64],
+    /// As many.
     pub destinations: &'a [u64],
+    /// Of RAM's cells.
     pub addresses: &'a [u64],
+    /// As many.
     pub values: &'a [u64],
+    /// The words that were written out.
     pub output: &'a [u64],
 }
 
 impl Memory<'_> {
+    /// For [`helper_variables`], which only reads.
     pub fn view(&self) -> MemoryView<'_> {
         let Memory { op_stack, origins, destinations, addresses, values, output } = self;
         MemoryView { op_stack, origins, destinations, addresses, values, output }
@@ -162,7 +200,7 @@ extern "C" {
         addresses: Words, _: usize, values: Words, _: usize, output: Words, _: usize,
     ) -> u64;
 
-    // exports/src/replay.rt: triton_replay(answer, log, clock, cells, addresses, values, words)
+    // exports/src/replay_call.rt: triton_replay(answer, log, clock, cells, addresses, values, words)
     fn triton_replay(
         answer: MutWords, _: usize, log: *const u8, _: usize, clock: u64, cells: u64,
         addresses: MutWords, _: usize, values: MutWords, _: usize, words: MutWords, _: usize,
@@ -172,6 +210,7 @@ extern "C" {
 // An export called with what stands before code and memory, these two, and what stands behind them.
 macro_rules! call {
     ($export:ident, [$($front:expr),*], $c:ident, $m:ident, $pointer:ident, [$($back:expr),*]) => {
+        // SAFETY: each pointer goes with the length of its slice, which is borrowed for the call; the export asks for nothing else
         unsafe {
             $export(
                 $($front,)*
@@ -245,6 +284,7 @@ pub fn replay(
     values: &mut [u64],
     words: &mut [u64],
 ) -> u64 {
+    // SAFETY: as above
     unsafe {
         triton_replay(
             answer.as_mut_ptr(),

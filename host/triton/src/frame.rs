@@ -3,9 +3,13 @@ use std::error::Error;
 use std::fmt::{Display, Formatter, Result as Formatted};
 
 /// Puts a record behind the others.
+///
+/// # Panics
+///
+/// Where the fields have more than 65,533 bytes, whose length does not fit into a record's two bytes.
 pub fn put(bytes: &mut Vec<u8>, kind: u16, fields: &[&[u8]]) {
     let length: usize = fields.iter().map(|field| field.len()).sum();
-    let length = u16::try_from(length + 2).expect("a record is short");
+    let length = u16::try_from(length + 2).expect("a record has at most 65,533 bytes of fields");
     bytes.extend(length.to_le_bytes());
     bytes.extend(kind.to_le_bytes());
     fields.iter().for_each(|field| bytes.extend(*field));
@@ -21,6 +25,7 @@ pub fn words(words: &[u64]) -> Vec<u8> {
 pub struct Fault {
     /// The byte at which the record begins.
     pub at: usize,
+    /// In words, without the place.
     pub what: String,
 }
 
@@ -46,15 +51,32 @@ pub(crate) struct Fields<'a> {
 }
 
 impl Fields<'_> {
-    /// The next number of so many bytes; the kind's length has been checked.
-    pub fn number(&mut self, bytes: usize) -> u64 {
-        let (front, left) = self.left.split_at(bytes);
+    /// The next bytes; the kind's length has been checked.
+    fn take<const N: usize>(&mut self) -> [u8; N] {
+        let (front, left) = self.left.split_first_chunk().expect("as many bytes as the kind's fields have");
         self.left = left;
-        front.iter().rev().fold(0, |number, byte| number << 8 | u64::from(*byte))
+        *front
+    }
+
+    pub fn byte(&mut self) -> u8 {
+        let [byte] = self.take();
+        byte
+    }
+
+    pub fn short(&mut self) -> u16 {
+        u16::from_le_bytes(self.take())
+    }
+
+    pub fn long(&mut self) -> u32 {
+        u32::from_le_bytes(self.take())
+    }
+
+    pub fn word(&mut self) -> u64 {
+        u64::from_le_bytes(self.take())
     }
 
     pub fn words<const N: usize>(&mut self) -> [u64; N] {
-        std::array::from_fn(|_| self.number(8))
+        std::array::from_fn(|_| self.word())
     }
 }
 
@@ -84,8 +106,8 @@ impl<'a> Frames<'a> {
             return Err(Fault::new(at, format!("a record of kind {kind} has length {}, found {length}", fields + 2)));
         }
         let Some(fields) = left.get(4..fields + 4) else {
-            let missing = fields + 4 - left.len();
-            return Err(Fault::new(at, format!("a record of kind {kind} is cut short by {missing} bytes")));
+            let what = format!("a record of kind {kind} has {} bytes, found {}", fields + 4, left.len());
+            return Err(Fault::new(at, what));
         };
         self.at += fields.len() + 4;
         Ok(Fields { at, kind, left: fields })

@@ -1,26 +1,34 @@
 //! The 46 instructions: opcode, name, argument, how the depth changes.
 
+/// Which arguments an instruction takes.
 #[derive(Clone, Copy, PartialEq, Eq, Debug)]
 pub enum Argument {
+    /// None: its slot holds 0.
     None,
     /// A number of words, 1 to 5.
     Count,
     /// A stack place, 0 to 15.
     Place,
+    /// Any word.
     Word,
 }
 
 #[derive(Clone, Copy, Debug)]
-pub enum Change {
+enum Change {
     By(i64),
+    /// By as many words as the argument says.
     Grows,
     Shrinks,
 }
 
+/// An instruction, without an argument's value.
 #[derive(Clone, Copy, Debug)]
 pub struct Instruction {
+    /// The number in its slots.
     pub opcode: u64,
+    /// As a text has it.
     pub name: &'static str,
+    /// Which arguments it takes.
     pub argument: Argument,
     change: Change,
 }
@@ -32,6 +40,7 @@ const fn row(opcode: u64, name: &'static str, argument: Argument, change: Change
 use Argument::{Count, None as Plain, Place, Word};
 use Change::{By, Grows, Shrinks};
 
+/// All of them, ascending by opcode.
 pub const ALL: [Instruction; 46] = [
     row(0, "halt", Plain, By(0)),
     row(1, "push", Word, By(1)),
@@ -94,13 +103,15 @@ const PLACES: [u8; LARGEST + 1] = {
     places
 };
 
+/// The instruction of an opcode.
 pub fn decode(opcode: u64) -> Option<&'static Instruction> {
     let place = *PLACES.get(usize::try_from(opcode).ok()?)?;
     ALL.get(place as usize)
 }
 
-pub fn named(name: &str) -> &'static Instruction {
-    ALL.iter().find(|instruction| instruction.name == name).expect(name)
+/// The instruction of a name.
+pub fn named(name: &str) -> Option<&'static Instruction> {
+    ALL.iter().find(|instruction| instruction.name == name)
 }
 
 impl Instruction {
@@ -113,6 +124,7 @@ impl Instruction {
         }
     }
 
+    /// Whether a slot of it may hold this argument, which is a word.
     pub fn allows(&self, argument: u64) -> bool {
         match self.argument {
             Argument::None => argument == 0,

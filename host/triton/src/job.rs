@@ -7,7 +7,9 @@ use std::fmt::{Debug, Formatter, Result as Formatted};
 /// One slot of a program: an instruction with an argument stands in two.
 #[derive(Clone, Copy, Debug, Default, PartialEq, Eq, Hash)]
 pub struct Slot {
+    /// [`instructions`](crate::instructions) has them.
     pub opcode: u64,
+    /// 0 where the instruction takes none.
     pub argument: u64,
 }
 
@@ -16,15 +18,19 @@ pub struct Slot {
 pub struct Opening {
     /// The program's digest, which lies at the bottom of the stack.
     pub digest: [u64; 5],
+    /// Its slots; the first is slot 0.
     pub program: Vec<Slot>,
+    /// What read_io takes, the first word first.
     pub public_input: Vec<u64>,
+    /// What divine takes.
     pub secret_input: Vec<u64>,
+    /// What merkle_step takes.
     pub secret_digests: Vec<[u64; 5]>,
-    /// Address and value.
+    /// Address and value, no address twice.
     pub ram: Vec<(u64, u64)>,
 }
 
-/// How much is lent to a job: it is refused (30 to 33) where it needs more.
+/// How much is lent to a job, up to [`LONGEST`] of each: a step that needs more is refused (30 to 33).
 #[derive(Clone, Copy, Debug, PartialEq, Eq)]
 pub struct Sizes {
     /// Words, at least 16.
@@ -45,17 +51,21 @@ impl Sizes {
 /// How a run ended.
 #[derive(Clone, Copy, Debug, PartialEq, Eq)]
 pub enum Ending {
+    /// By halt, now or before.
     Halted,
     /// As many steps succeeded as the budget allows, and the machine has not halted.
     Spent,
     /// Of [`Job::trace_execution`]: the log has no room for a further step, which takes up to [`STEP_BYTES`] bytes.
     LogFull,
+    /// A step was refused; those before it are kept.
     Refused(Refusal),
 }
 
 /// What a run did.
+#[must_use = "a run may have been refused, or may have to go on"]
 #[derive(Clone, Copy, Debug, PartialEq, Eq)]
 pub struct Ran {
+    /// How it ended.
     pub ending: Ending,
     /// How many steps succeeded.
     pub steps: u64,
@@ -136,8 +146,8 @@ impl Job {
         ran(&answer)
     }
 
-    /// At most so many steps, with the records of their calls joined at the start of the log. A log of up to 16,777,216 bytes
-    /// is taken; where it gets full the job can go on with an empty one.
+    /// At most so many steps, with the records of their calls joined at the start of the log, of up to [`LONGEST`] bytes. Where it
+    /// gets full the job can go on with an empty one, as [`trace_in_pieces`](crate::listing::trace_in_pieces) does.
     pub fn trace_execution(&mut self, budget: u64, log: &mut [u8]) -> Ran {
         let mut answer = [0; answer::ALL];
         let (registers, code, memory, _) = self.parts();
@@ -179,10 +189,12 @@ impl Job {
         self.registers[register::CLOCK]
     }
 
+    /// The slot of the next instruction, which may be outside the program.
     pub fn instruction_pointer(&self) -> u64 {
         self.registers[register::POINTER]
     }
 
+    /// Whether it has taken a halt.
     pub fn is_halted(&self) -> bool {
         self.registers[register::HALTED] == 1
     }
@@ -202,6 +214,7 @@ impl Job {
         pairs(&self.addresses, &self.values, self.count(register::CELLS))
     }
 
+    /// The words that write_io has put out.
     pub fn output(&self) -> &[u64] {
         &self.output[..self.count(register::OUTPUTS)]
     }

@@ -5,7 +5,9 @@ use crate::job::{Opening, Slot};
 /// A job, and its budget, as a file says them.
 #[derive(Clone, Debug, PartialEq, Eq)]
 pub struct JobFile {
+    /// For [`Job::open`](crate::Job::open).
     pub opening: Opening,
+    /// The most steps to take.
     pub budget: u32,
 }
 
@@ -14,15 +16,14 @@ impl JobFile {
     pub const MOST_BYTES: usize = 65_536;
     /// One with more is broken.
     pub const MOST_SLOTS: usize = 1_024;
-    /// Where a file says none.
+    /// The budget where a file says none.
     pub const BUDGET: u32 = 1_000_000;
 
     /// Reads a file, or says where it is broken: document 01's number 50. Whether its job opens is for
     /// [`Job::open`](crate::Job::open) to say.
     pub fn read(file: &[u8]) -> Result<JobFile, Fault> {
         if file.len() > Self::MOST_BYTES {
-            let what = format!("a job file has at most {} bytes, found {}", Self::MOST_BYTES, file.len());
-            return Err(Fault::new(Self::MOST_BYTES, what));
+            return Err(too_long());
         }
         let mut opening = Opening::default();
         let mut budget = None;
@@ -36,16 +37,14 @@ impl JobFile {
             count += 1;
             match kind {
                 11 => opening.digest = fields.words(),
-                12 if opening.program.len() == Self::MOST_SLOTS => {
-                    return Err(Fault::new(at, format!("a program has at most {} slots", Self::MOST_SLOTS)));
-                }
-                12 => opening.program.push(Slot { opcode: fields.number(2), argument: fields.number(8) }),
-                13 => opening.public_input.push(fields.number(8)),
-                14 => opening.secret_input.push(fields.number(8)),
+                12 if opening.program.len() == Self::MOST_SLOTS => return Err(too_many_slots(at)),
+                12 => opening.program.push(Slot { opcode: fields.short().into(), argument: fields.word() }),
+                13 => opening.public_input.push(fields.word()),
+                14 => opening.secret_input.push(fields.word()),
                 15 => opening.secret_digests.push(fields.words()),
-                16 => opening.ram.push((fields.number(8), fields.number(8))),
+                16 => opening.ram.push((fields.word(), fields.word())),
                 _ if budget.is_some() => return Err(Fault::new(at, "a second budget")),
-                _ => budget = Some(fields.number(4) as u32),
+                _ => budget = Some(fields.long()),
             }
         }
         if count == 0 {
@@ -54,21 +53,39 @@ impl JobFile {
         Ok(JobFile { opening, budget: budget.unwrap_or(Self::BUDGET) })
     }
 
-    /// The file: digest, slots, inputs, RAM, budget.
-    pub fn write(&self) -> Vec<u8> {
+    /// The file: digest, slots, inputs, RAM, budget. What [`read`](Self::read) gives back; a fault where there is no such file,
+    /// since it would be too long or an opcode has more than two bytes.
+    pub fn write(&self) -> Result<Vec<u8>, Fault> {
         let opening = &self.opening;
         let mut file = vec![];
         put(&mut file, 11, &[&words(&opening.digest)]);
-        for slot in &opening.program {
-            put(&mut file, 12, &[&(slot.opcode as u16).to_le_bytes(), &slot.argument.to_le_bytes()]);
+        for (i, slot) in opening.program.iter().enumerate() {
+            let Ok(opcode) = u16::try_from(slot.opcode) else {
+                return Err(Fault::new(file.len(), format!("an opcode is at most 65535, found {} in slot {i}", slot.opcode)));
+            };
+            if i == Self::MOST_SLOTS {
+                return Err(too_many_slots(file.len()));
+            }
+            put(&mut file, 12, &[&opcode.to_le_bytes(), &slot.argument.to_le_bytes()]);
         }
         opening.public_input.iter().for_each(|word| put(&mut file, 13, &[&word.to_le_bytes()]));
         opening.secret_input.iter().for_each(|word| put(&mut file, 14, &[&word.to_le_bytes()]));
         opening.secret_digests.iter().for_each(|digest| put(&mut file, 15, &[&words(digest)]));
         opening.ram.iter().for_each(|&(address, value)| put(&mut file, 16, &[&words(&[address, value])]));
         put(&mut file, 17, &[&self.budget.to_le_bytes()]);
-        file
+        if file.len() > Self::MOST_BYTES {
+            return Err(too_long());
+        }
+        Ok(file)
     }
+}
+
+fn too_long() -> Fault {
+    Fault::new(JobFile::MOST_BYTES, format!("a job file has at most {} bytes, this one has more", JobFile::MOST_BYTES))
+}
+
+fn too_many_slots(at: usize) -> Fault {
+    Fault::new(at, format!("a program has at most {} slots, this one has more", JobFile::MOST_SLOTS))
 }
 
 /// How many bytes the fields of a kind have.

@@ -29,8 +29,8 @@
 //! ```
 //!
 //! [`text`] makes job files from text, [`JobFile`] reads them and [`listing`] prints a job as document 01's runjob does; the
-//! command `kixombu` has all three. [`exports`] has the calls on slices, and step over a register
-//! record, for who lends memory of their own.
+//! command `kixombu` has all three. [`exports`] has the calls on slices, and step over a register record, for who lends memory
+//! of their own.
 pub mod exports;
 pub mod frame;
 pub mod instructions;

@@ -9,6 +9,7 @@ use std::time::{Duration, Instant};
 /// How a printed job ended.
 #[derive(Clone, Debug, PartialEq, Eq)]
 pub enum Printed {
+    /// The job was opened.
     Ran(Ending),
     /// The file is broken, or its job did not open.
     NotOpened(Refusal),
@@ -52,16 +53,17 @@ const PIECE_BYTES: usize = 1 << 20;
 const PIECE_TIME: Duration = Duration::from_millis(200);
 
 /// Runs a job to its budget in pieces, so that its log may be of any length. `each` gets the records of a piece and the steps
-/// taken so far.
+/// taken so far; its error ends the run.
 pub fn trace_in_pieces(job: &mut Job, budget: u64, mut each: impl FnMut(&[u8], u64) -> Result<()>) -> Result<Ran> {
     let mut log = vec![0; PIECE_BYTES];
-    let mut piece = 10_000;
+    let mut piece: u64 = 10_000;
     let mut all = Ran { ending: Ending::Spent, steps: 0, bytes: 0 };
     loop {
         let began = Instant::now();
         let ran = job.trace_execution(piece.min(budget - all.steps), &mut log);
         if began.elapsed() < PIECE_TIME {
-            piece *= 2;
+            // pieces that end by a full log may be many
+            piece = piece.saturating_mul(2);
         }
         all = Ran { ending: ran.ending, steps: all.steps + ran.steps, bytes: all.bytes + ran.bytes };
         each(&log[..ran.bytes], all.steps)?;

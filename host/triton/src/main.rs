@@ -1,8 +1,12 @@
 //! kixombu: jobs and their logs on the command line.
+#![forbid(unsafe_code)]
 use kixombu::listing::{print, trace_in_pieces, Printed};
 use kixombu::{records, replay, text, Ending, Job, JobFile, Refusal, Sizes, LONGEST};
+use std::ffi::{OsStr, OsString};
+use std::fmt::Display;
 use std::fs::File;
 use std::io::{self, BufWriter, ErrorKind, Read, Write};
+use std::path::Path;
 use std::process::ExitCode;
 use std::time::{Duration, Instant};
 
@@ -22,51 +26,59 @@ A text has one item to a line or between semicolons, and remarks behind #:
 Also slot OPCODE ARGUMENT, a slot as it is, and byte N. The digest comes first; -1 stands for p - 1.
 A job is lent 4,096 op stack words, 1,024 jump stack entries, 4,096 RAM cells and 4,096 output words.
 
-Exit status: 0 done, or the job halted; 1 the job or the log is refused, or the text is bad; 2 bad usage, or a file that
-cannot be read or written; 3 the job's budget is spent.";
+Exit status: 0 done, or the job halted, or who reads the output has closed it; 1 the job or the log is refused, or the text
+is bad; 2 bad usage, or a file that cannot be read or written; 3 the job's budget is spent.";
 
 /// Why there is nothing to show, and the exit status.
 struct Failure(u8, String);
 
+/// Of standard output; [`at`] names files.
 impl From<io::Error> for Failure {
     fn from(error: io::Error) -> Failure {
-        // who reads has read enough
-        let (status, text) = if error.kind() == ErrorKind::BrokenPipe { (0, String::new()) } else { (2, error.to_string()) };
-        Failure(status, text)
+        at("standard output", error)
     }
 }
 
 type Outcome = Result<u8, Failure>;
 
 fn main() -> ExitCode {
-    let words: Vec<String> = std::env::args().skip(1).collect();
-    let words: Vec<&str> = words.iter().map(String::as_str).collect();
+    let words: Vec<OsString> = std::env::args_os().skip(1).collect();
+    let words: Vec<&OsStr> = words.iter().map(OsString::as_os_str).collect();
     let status = dispatch(&words).unwrap_or_else(|Failure(status, text)| {
         if !text.is_empty() {
-            eprintln!("kixombu: {text}");
+            note(text);
         }
         status
     });
     ExitCode::from(status)
 }
 
-fn dispatch(words: &[&str]) -> Outcome {
-    match *words {
-        ["make", text] => make(text, "-"),
-        ["make", text, job] => make(text, job),
-        ["run", job] => run(job),
-        ["record", job, log] => record(job, log),
-        ["replay", job, log, clock] => replay_to(job, log, clock),
-        ["show", log] => show(log),
-        ["--help" | "-h" | "help"] => say(HELP),
-        ["--version"] => say(&format!("kixombu {}", env!("CARGO_PKG_VERSION"))),
-        [] => Err(Failure(2, format!("a verb is needed\n{HELP}"))),
-        [verb, ..] => {
-            let known = ["make", "run", "record", "replay", "show"].contains(&verb);
-            let what = if known { "these are not its files" } else { "no such verb" };
-            Err(Failure(2, format!("{}: {what}; see kixombu --help", words.join(" "))))
+fn dispatch(words: &[&OsStr]) -> Outcome {
+    let Some((&verb, files)) = words.split_first() else {
+        return Err(Failure(2, format!("a verb is needed\n{HELP}")));
+    };
+    let verb = Path::new(verb).display().to_string();
+    match (verb.as_str(), files) {
+        _ if words.iter().any(|&word| word == "--help" || word == "-h") => say(HELP),
+        ("help", []) => say(HELP),
+        ("--version", []) => say(&format!("kixombu {}", env!("CARGO_PKG_VERSION"))),
+        ("make", [text]) => make(text, OsStr::new("-")),
+        ("make", [text, job]) => make(text, job),
+        ("run", [job]) => run(job),
+        ("record", [job, log]) => record(job, log),
+        ("replay", [job, log, clock]) => replay_to(job, log, clock),
+        ("show", [log]) => show(log),
+        _ => {
+            let usage = HELP.lines().find(|line| line.starts_with(&format!("kixombu {verb} ")));
+            let usage = usage.and_then(|line| line.split("  ").next()).map(|usage| format!("usage: {usage}"));
+            Err(Failure(2, usage.unwrap_or(format!("{verb}: no such verb; see kixombu --help"))))
         }
     }
+}
+
+/// A line on standard error. Where that is closed there is no one to tell.
+fn note(text: impl Display) {
+    let _ = writeln!(io::stderr(), "kixombu: {text}");
 }
 
 fn say(text: &str) -> Outcome {
@@ -74,34 +86,38 @@ fn say(text: &str) -> Outcome {
     Ok(0)
 }
 
-fn make(text_name: &str, job_name: &str) -> Outcome {
-    let text = String::from_utf8(read(text_name)?).map_err(|_| Failure(1, format!("{text_name}: the text is not UTF-8")))?;
-    let made = text::make(&text).map_err(|fault| Failure(1, format!("{text_name}: {fault}")))?;
+fn make(text_name: &OsStr, job_name: &OsStr) -> Outcome {
+    let bytes = read(text_name, LONGEST)?;
+    let bad = |what: &dyn Display| of(1, text_name, what);
+    if bytes.len() > LONGEST {
+        return Err(bad(&format!("a text has at most {LONGEST} bytes, this one has more")));
+    }
+    let text = String::from_utf8(bytes).map_err(|_| bad(&"the text is not UTF-8"))?;
+    let made = text::make(&text).map_err(|fault| bad(&fault))?;
     for warning in &made.warnings {
-        eprintln!("kixombu: warning: {text_name}: {warning}");
+        note(format!("warning: {}: {warning}", Path::new(text_name).display()));
     }
     let mut out = create(job_name)?;
     out.write_all(&made.file).and_then(|()| out.flush()).map_err(|error| at(job_name, error))?;
     Ok(0)
 }
 
-fn run(job_name: &str) -> Outcome {
-    let file = read(job_name)?;
+fn run(job_name: &OsStr) -> Outcome {
+    let file = read(job_name, JobFile::MOST_BYTES)?;
+    let job_file = job_file(job_name, &file);
+    let mut progress = Progress::new(job_file.as_ref().map_or(0, |file| file.budget.into()));
     let mut out = BufWriter::with_capacity(1 << 16, io::stdout().lock());
-    let mut progress = Progress::new(budget_of(&file));
     let printed = print(&file, &mut out, |steps| progress.show(steps)).and_then(|printed| out.flush().map(|()| printed))?;
     match printed {
-        Printed::NotOpened(Refusal::JobFileBroken) => Err(opened(job_name, &file).unwrap_err()),
-        Printed::NotOpened(refusal) | Printed::Ran(Ending::Refused(refusal)) => Err(Failure(1, format!("{job_name}: {refusal}"))),
+        Printed::NotOpened(Refusal::JobFileBroken) => job_file.map(|_| 1),
+        Printed::NotOpened(refusal) | Printed::Ran(Ending::Refused(refusal)) => Err(of(1, job_name, refusal)),
         Printed::Ran(ending) => Ok(ended(ending)),
     }
 }
 
-fn record(job_name: &str, log_name: &str) -> Outcome {
-    let file = read(job_name)?;
-    let job_file = opened(job_name, &file)?;
-    let refused = |refusal| Failure(1, format!("{job_name}: {refusal}"));
-    let mut job = Job::open(&job_file.opening, Sizes::RUNJOB).map_err(refused)?;
+fn record(job_name: &OsStr, log_name: &OsStr) -> Outcome {
+    let job_file = job_file(job_name, &read(job_name, JobFile::MOST_BYTES)?)?;
+    let mut job = Job::open(&job_file.opening, Sizes::RUNJOB).map_err(|refusal| of(1, job_name, refusal))?;
     let mut out = create(log_name)?;
     let mut progress = Progress::new(job_file.budget.into());
     let ran = trace_in_pieces(&mut job, job_file.budget.into(), |bytes, steps| {
@@ -115,22 +131,29 @@ fn record(job_name: &str, log_name: &str) -> Outcome {
         Ending::Refused(refusal) => format!("refused: {refusal}"),
         _ => "its budget is spent".to_string(),
     };
-    eprintln!("kixombu: {} steps, {} bytes; {end}", ran.steps, ran.bytes);
+    note(format!("{} steps, {} bytes; {end}", ran.steps, ran.bytes));
     if ran.bytes > LONGEST {
-        eprintln!("kixombu: warning: replay takes logs of up to {LONGEST} bytes");
+        note(format!("warning: replay takes logs of up to {LONGEST} bytes"));
     }
     Ok(ended(ran.ending))
 }
 
-fn replay_to(job_name: &str, log_name: &str, clock: &str) -> Outcome {
-    let Ok(clock) = clock.parse() else {
-        return Err(Failure(2, format!("{clock}: a clock is a number; see kixombu --help")));
+fn replay_to(job_name: &OsStr, log_name: &OsStr, clock: &OsStr) -> Outcome {
+    let Some(clock) = clock.to_str().and_then(|clock| clock.parse().ok()) else {
+        return Err(of(2, clock, "a clock is a whole number below 2^64; see kixombu --help"));
     };
-    let opening = opened(job_name, &read(job_name)?)?.opening;
-    let log = read(log_name)?;
+    let opening = job_file(job_name, &read(job_name, JobFile::MOST_BYTES)?)?.opening;
+    let log = read(log_name, LONGEST)?;
     let sizes = Sizes::RUNJOB;
-    let replayed = replay(&log, clock, &opening.ram, sizes.ram, sizes.op_stack)
-        .map_err(|refusal| Failure(1, format!("{log_name} to clock {clock}: {refusal}")))?;
+    let replayed = replay(&log, clock, &opening.ram, sizes.ram, sizes.op_stack).map_err(|refusal| {
+        let more = match refusal {
+            Refusal::BadShape if log.len() > LONGEST => format!("; a log has at most {LONGEST} bytes, this one has more"),
+            // the first broken record is the one that replay has found
+            Refusal::RecordBroken => records(&log).find_map(Result::err).map_or(String::new(), |fault| format!("; {fault}")),
+            _ => String::new(),
+        };
+        Failure(1, format!("{} to clock {clock}: {refusal}{more}", Path::new(log_name).display()))
+    })?;
     let mut out = BufWriter::new(io::stdout().lock());
     writeln!(out, "depth {}\ncells {}", replayed.depth, replayed.ram.len())?;
     for (pointer, word) in (16..).zip(&replayed.stack) {
@@ -143,15 +166,15 @@ fn replay_to(job_name: &str, log_name: &str, clock: &str) -> Outcome {
     Ok(0)
 }
 
-fn show(log_name: &str) -> Outcome {
-    let log = read(log_name)?;
+fn show(log_name: &OsStr) -> Outcome {
+    let log = read(log_name, usize::MAX)?;
     let mut out = BufWriter::with_capacity(1 << 16, io::stdout().lock());
     for record in records(&log) {
         match record {
             Ok(record) => writeln!(out, "{record}")?,
             Err(fault) => {
                 out.flush()?;
-                return Err(Failure(1, format!("{log_name}: {fault}")));
+                return Err(of(1, log_name, fault));
             }
         }
     }
@@ -167,34 +190,39 @@ fn ended(ending: Ending) -> u8 {
     }
 }
 
-fn opened(job_name: &str, file: &[u8]) -> Result<JobFile, Failure> {
-    JobFile::read(file).map_err(|fault| Failure(1, format!("{job_name}: {}, {fault}", Refusal::JobFileBroken)))
+fn job_file(name: &OsStr, file: &[u8]) -> Result<JobFile, Failure> {
+    JobFile::read(file).map_err(|fault| of(1, name, format!("{}, {fault}", Refusal::JobFileBroken)))
 }
 
-fn budget_of(file: &[u8]) -> u64 {
-    JobFile::read(file).map_or(0, |file| file.budget.into())
-}
-
-fn read(name: &str) -> Result<Vec<u8>, Failure> {
+/// At most so many bytes and one, which shows that there are more.
+fn read(name: &OsStr, most: usize) -> Result<Vec<u8>, Failure> {
     let mut bytes = vec![];
-    let read = match name {
-        "-" => io::stdin().read_to_end(&mut bytes),
-        _ => File::open(name).and_then(|mut file| file.read_to_end(&mut bytes)),
+    let most = (most as u64).saturating_add(1);
+    let read = match name.to_str() {
+        Some("-") => io::stdin().take(most).read_to_end(&mut bytes),
+        _ => File::open(name).and_then(|file| file.take(most).read_to_end(&mut bytes)),
     };
     read.map_err(|error| at(name, error))?;
     Ok(bytes)
 }
 
-fn create(name: &str) -> Result<Box<dyn Write>, Failure> {
-    match name {
-        "-" => Ok(Box::new(io::stdout().lock())),
+fn create(name: &OsStr) -> Result<Box<dyn Write>, Failure> {
+    match name.to_str() {
+        Some("-") => Ok(Box::new(io::stdout().lock())),
         _ => Ok(Box::new(BufWriter::with_capacity(1 << 16, File::create(name).map_err(|error| at(name, error))?))),
     }
 }
 
-fn at(name: &str, error: io::Error) -> Failure {
-    let Failure(status, text) = error.into();
-    Failure(status, if text.is_empty() { text } else { format!("{name}: {text}") })
+fn of(status: u8, name: &OsStr, what: impl Display) -> Failure {
+    Failure(status, format!("{}: {what}", Path::new(name).display()))
+}
+
+fn at(name: impl AsRef<OsStr>, error: io::Error) -> Failure {
+    match error.kind() {
+        // who reads has read enough
+        ErrorKind::BrokenPipe => Failure(0, String::new()),
+        _ => of(2, name.as_ref(), error),
+    }
 }
 
 /// Lines on standard error while a run takes long.
@@ -214,7 +242,7 @@ impl Progress {
     fn show(&mut self, steps: u64) {
         let now = self.began.elapsed();
         if now >= self.next {
-            eprintln!("kixombu: {steps} of at most {} steps, {} seconds", self.budget, now.as_secs());
+            note(format!("{steps} of at most {} steps, {} seconds", self.budget, now.as_secs()));
             self.next = now + Self::EVERY;
         }
     }

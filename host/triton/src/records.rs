@@ -7,24 +7,44 @@ use std::fmt::{Display, Formatter, Result as Formatted};
 /// A record of a call log. `Display` gives it as a line.
 #[derive(Clone, Debug, PartialEq, Eq)]
 pub enum Record {
+    /// Kind 1: the sponge is set anew.
     Reset,
-    /// Opcode, and six states of sixteen words.
-    Tip5(u64, Vec<u64>),
+    /// Kind 2: a permutation.
+    Tip5 {
+        /// Of the instruction under which it is recorded.
+        opcode: u16,
+        /// Before it and after each of its five rounds.
+        states: Box<[[u64; 16]; 6]>,
+    },
+    /// Kind 3: an operation on u32 words.
     U32 {
-        opcode: u64,
+        /// Of the instruction under which it is recorded.
+        opcode: u16,
+        /// The left operand.
         left: u64,
+        /// The right operand.
         right: u64,
     },
+    /// Kind 4: a word that goes below the top sixteen of the stack, or comes up from there.
     Stack {
-        clock: u64,
+        /// The steps taken before.
+        clock: u32,
+        /// Of the stack's word at index `pointer` - 16, the lowest being 0.
         pointer: u64,
+        /// Whether it goes below.
         write: bool,
+        /// The word.
         value: u64,
     },
+    /// Kind 5: a cell written or read.
     Ram {
-        clock: u64,
+        /// The steps taken before.
+        clock: u32,
+        /// Of the cell.
         address: u64,
+        /// The word.
         value: u64,
+        /// Whether it is written.
         write: bool,
     },
 }
@@ -34,35 +54,32 @@ impl Record {
     pub fn put(&self, log: &mut Vec<u8>) {
         match self {
             Record::Reset => put(log, 1, &[]),
-            Record::Tip5(opcode, states) => put(log, 2, &[&short(*opcode), &words(states)]),
-            &Record::U32 { opcode, left, right } => put(log, 3, &[&short(opcode), &words(&[left, right])]),
+            Record::Tip5 { opcode, states } => put(log, 2, &[&opcode.to_le_bytes(), &words(states.as_flattened())]),
+            Record::U32 { opcode, left, right } => put(log, 3, &[&opcode.to_le_bytes(), &words(&[*left, *right])]),
             &Record::Stack { clock, pointer, write, value } => {
-                put(log, 4, &[&(clock as u32).to_le_bytes(), &pointer.to_le_bytes(), &[write.into()], &value.to_le_bytes()])
+                put(log, 4, &[&clock.to_le_bytes(), &pointer.to_le_bytes(), &[write.into()], &value.to_le_bytes()])
             }
             &Record::Ram { clock, address, value, write } => {
-                put(log, 5, &[&(clock as u32).to_le_bytes(), &address.to_le_bytes(), &value.to_le_bytes(), &[write.into()]])
+                put(log, 5, &[&clock.to_le_bytes(), &address.to_le_bytes(), &value.to_le_bytes(), &[write.into()]])
             }
         }
     }
 
     fn read(mut fields: Fields) -> Result<Record, Fault> {
-        let at = fields.at;
-        let read = match fields.kind {
+        Ok(match fields.kind {
             1 => Record::Reset,
-            2 => Record::Tip5(fields.number(2), fields.words::<96>().to_vec()),
-            3 => Record::U32 { opcode: fields.number(2), left: fields.number(8), right: fields.number(8) },
+            2 => Record::Tip5 { opcode: fields.short(), states: Box::new(std::array::from_fn(|_| fields.words())) },
+            3 => Record::U32 { opcode: fields.short(), left: fields.word(), right: fields.word() },
             4 => {
-                let (clock, pointer) = (fields.number(4), word(&mut fields)?);
+                let (clock, pointer) = (fields.long(), word(&mut fields)?);
                 let write = direction(&mut fields)?;
                 Record::Stack { clock, pointer, write, value: word(&mut fields)? }
             }
-            5 => {
-                let (clock, address, value) = (fields.number(4), word(&mut fields)?, word(&mut fields)?);
+            _ => {
+                let (clock, address, value) = (fields.long(), word(&mut fields)?, word(&mut fields)?);
                 Record::Ram { clock, address, value, write: direction(&mut fields)? }
             }
-            kind => return Err(Fault::new(at, format!("{kind} is no record's kind"))),
-        };
-        Ok(read)
+        })
     }
 }
 
@@ -84,10 +101,15 @@ pub fn bytes_of(records: &[Record]) -> Vec<u8> {
 /// assert_eq!(log.len(), 25);
 /// assert_eq!(record.to_string(), "stack 0 16 write 5");
 /// assert_eq!(records(&log).collect::<Result<Vec<_>, _>>().unwrap(), [record]);
-/// assert_eq!(records(&log[..24]).next().unwrap().unwrap_err().what, "a record of kind 4 is cut short by 1 bytes");
+/// assert_eq!(records(&log[..24]).next().unwrap().unwrap_err().what, "a record of kind 4 has 25 bytes, found 24");
 /// ```
 pub fn records(log: &[u8]) -> impl Iterator<Item = Result<Record, Fault>> + '_ {
-    Frames::new(log, length_of).map(|fields| Record::read(fields?))
+    let mut is_sound = true;
+    Frames::new(log, length_of).map_while(move |fields| {
+        let record = is_sound.then(|| Record::read(fields?))?;
+        is_sound = record.is_ok();
+        Some(record)
+    })
 }
 
 /// How many bytes the fields of a kind have.
@@ -95,12 +117,8 @@ fn length_of(kind: u16) -> Option<usize> {
     [0, 770, 18, 21, 21].get(usize::from(kind).wrapping_sub(1)).copied()
 }
 
-fn short(number: u64) -> [u8; 2] {
-    (number as u16).to_le_bytes()
-}
-
 fn word(fields: &mut Fields) -> Result<u64, Fault> {
-    let word = fields.number(8);
+    let word = fields.word();
     if word < P {
         return Ok(word);
     }
@@ -108,7 +126,7 @@ fn word(fields: &mut Fields) -> Result<u64, Fault> {
 }
 
 fn direction(fields: &mut Fields) -> Result<bool, Fault> {
-    match fields.number(1) {
+    match fields.byte() {
         0 => Ok(false),
         1 => Ok(true),
         other => Err(Fault::new(fields.at, format!("a direction is 0 for read or 1 for write, found {other}"))),
@@ -117,16 +135,16 @@ fn direction(fields: &mut Fields) -> Result<bool, Fault> {
 
 impl Display for Record {
     fn fmt(&self, f: &mut Formatter) -> Formatted {
-        let name = |opcode| decode(opcode).map_or(format!("{opcode}"), |instruction| instruction.name.to_string());
+        let name = |opcode: u16| decode(opcode.into()).map_or(opcode.to_string(), |instruction| instruction.name.to_string());
         let way = |write| if write { "write" } else { "read" };
         match self {
             Record::Reset => write!(f, "reset"),
             // the first and the last of the six states
-            Record::Tip5(opcode, states) => {
+            Record::Tip5 { opcode, states } => {
                 write!(f, "tip5 {} from", name(*opcode))?;
-                states.iter().take(16).try_for_each(|word| write!(f, " {word}"))?;
+                states[0].iter().try_for_each(|word| write!(f, " {word}"))?;
                 write!(f, " to")?;
-                states.iter().skip(80).try_for_each(|word| write!(f, " {word}"))
+                states[5].iter().try_for_each(|word| write!(f, " {word}"))
             }
             &Record::U32 { opcode, left, right } => write!(f, "u32 {} {left} {right}", name(opcode)),
             &Record::Stack { clock, pointer, write, value } => write!(f, "stack {clock} {pointer} {} {value}", way(write)),
@@ -142,9 +160,9 @@ mod tests {
     fn one_of_each() -> Vec<Record> {
         vec![
             Record::Reset,
-            Record::Tip5(18, (0..96).collect()),
+            Record::Tip5 { opcode: 18, states: Box::new(std::array::from_fn(|i| std::array::from_fn(|j| (16 * i + j) as u64))) },
             Record::U32 { opcode: 14, left: 6, right: 3 },
-            Record::Stack { clock: 1, pointer: 16, write: true, value: P - 1 },
+            Record::Stack { clock: u32::MAX, pointer: 16, write: true, value: P - 1 },
             Record::Ram { clock: 2, address: 7, value: 8, write: false },
         ]
     }
@@ -181,6 +199,10 @@ mod tests {
         assert_eq!(fault(16, 2), "byte 0: a direction is 0 for read or 1 for write, found 2");
         assert_eq!(fault(17, 1), "byte 0: words are below 18446744069414584321, found 18446744069414584321");
         assert_eq!(fault(49, 9), "byte 25: a direction is 0 for read or 1 for write, found 9");
+        // nothing comes behind the first fault
+        let mut twice = log.clone();
+        (twice[16], twice[49]) = (2, 2);
+        assert_eq!(records(&twice).count(), 1);
     }
 
     #[test]
@@ -192,7 +214,7 @@ mod tests {
                 && lines[1].ends_with(" 15 to 80 81 82 83 84 85 86 87 88 89 90 91 92 93 94 95")
         );
         assert_eq!(lines[2], "u32 and 6 3");
-        assert_eq!(lines[3], format!("stack 1 16 write {}", P - 1));
+        assert_eq!(lines[3], format!("stack 4294967295 16 write {}", P - 1));
         assert_eq!(lines[4], "ram 2 7 read 8");
     }
 }

@@ -2,8 +2,9 @@
 use std::error::Error;
 use std::fmt::{Display, Formatter, Result};
 
-/// Why a call was turned down. The names of 10 to 23 are those of the original Rust's errors; `Display` says what was wanted
-/// and, where the refusal carries it, what was found.
+/// Why a call was turned down. The names of 10 to 23 are those of the original Rust's `InstructionError` and of the `OpStackError`
+/// within it (12, there `TooShallow`, and 13); the others are document 01's. `Display` says what was wanted and, where the refusal
+/// carries it, what was found.
 ///
 /// ```
 /// use kixombu::Refusal;
@@ -19,18 +20,18 @@ pub enum Refusal {
     BadShape,
     /// 2, place A: a number that is no word.
     NotAWord,
-    /// 3, place A.
+    /// 3, place A: a slot whose opcode is no instruction's.
     UnknownOpcode,
     /// 4, place A: an argument that its instruction does not take.
     BadArgument,
     /// 5, place A: a count outside its slice, an unused word that is not 0, an address twice.
     BadState,
 
-    /// 10.
+    /// 10: there is no step behind a halt.
     MachineHalted,
-    /// 11: also of skiz with nothing behind it, which has dropped its word.
+    /// 11: the pointer is outside the program; also of skiz with nothing behind it, which has dropped its word.
     InstructionPointerOverflow,
-    /// 12.
+    /// 12: fewer than sixteen words would be left.
     OpStackTooShallow,
 
     /// 13: the word that is no u32.
@@ -39,37 +40,49 @@ pub enum Refusal {
     EmptyPublicInput(u64),
     /// 15: how many words are left.
     EmptySecretInput(u64),
-    /// 16.
+    /// 16: no secret digest is left.
     EmptySecretDigestInput,
-    /// 17.
+    /// 17: return and recurse need an entry.
     JumpStackIsEmpty,
-    /// 18.
-    AssertionFailed { expected: u64, actual: u64 },
-    /// 19: the index, its word, and the word five places below.
-    VectorAssertionFailed { index: u64, expected: u64, actual: u64 },
-    /// 20.
+    /// 18: of assert.
+    AssertionFailed {
+        /// Always 1.
+        expected: u64,
+        /// The word on top of the stack.
+        actual: u64,
+    },
+    /// 19: of assert_vector.
+    VectorAssertionFailed {
+        /// The first place at which the two differ, from 0 to 4.
+        index: u64,
+        /// The word at that place.
+        expected: u64,
+        /// The word five places below.
+        actual: u64,
+    },
+    /// 20: of invert and x_invert.
     InverseOfZero,
-    /// 21.
+    /// 21: of div_mod.
     DivisionByZero,
-    /// 22.
+    /// 22: of log_2_floor.
     LogarithmOfZero,
-    /// 23.
+    /// 23: sponge_init must come before.
     SpongeNotInitialized,
 
-    /// 30.
+    /// 30: more words than were lent.
     OpStackFull,
-    /// 31.
+    /// 31: more entries than were lent.
     JumpStackFull,
-    /// 32.
+    /// 32: more cells than were lent.
     RamFull,
-    /// 33.
+    /// 33: more words than were lent.
     OutputFull,
-    /// 34.
+    /// 34: after 4,294,967,295 steps there is no further one.
     ClockAtEnd,
 
     /// 40, replay: a record cut short, of an unknown kind or another length, with a bad direction or a number that is no word.
     RecordBroken,
-    /// 41, replay.
+    /// 41, replay: a record whose clock is below that of one before it.
     ClockFalls,
     /// 42, replay: a stack record whose pointer does not go with the depth.
     PointerDiffers,
@@ -124,37 +137,46 @@ impl Refusal {
 
     /// Document 01's number.
     pub fn number(self) -> u64 {
+        self.number_and_name().0
+    }
+
+    /// The name, without the words.
+    pub fn name(self) -> &'static str {
+        self.number_and_name().1
+    }
+
+    fn number_and_name(self) -> (u64, &'static str) {
         match self {
-            BadShape => 1,
-            NotAWord => 2,
-            UnknownOpcode => 3,
-            BadArgument => 4,
-            BadState => 5,
-            MachineHalted => 10,
-            InstructionPointerOverflow => 11,
-            OpStackTooShallow => 12,
-            FailedU32Conversion(_) => 13,
-            EmptyPublicInput(_) => 14,
-            EmptySecretInput(_) => 15,
-            EmptySecretDigestInput => 16,
-            JumpStackIsEmpty => 17,
-            AssertionFailed { .. } => 18,
-            VectorAssertionFailed { .. } => 19,
-            InverseOfZero => 20,
-            DivisionByZero => 21,
-            LogarithmOfZero => 22,
-            SpongeNotInitialized => 23,
-            OpStackFull => 30,
-            JumpStackFull => 31,
-            RamFull => 32,
-            OutputFull => 33,
-            ClockAtEnd => 34,
-            RecordBroken => 40,
-            ClockFalls => 41,
-            PointerDiffers => 42,
-            ReadDiffers => 43,
-            SliceFull => 44,
-            JobFileBroken => 50,
+            BadShape => (1, "BadShape"),
+            NotAWord => (2, "NotAWord"),
+            UnknownOpcode => (3, "UnknownOpcode"),
+            BadArgument => (4, "BadArgument"),
+            BadState => (5, "BadState"),
+            MachineHalted => (10, "MachineHalted"),
+            InstructionPointerOverflow => (11, "InstructionPointerOverflow"),
+            OpStackTooShallow => (12, "OpStackTooShallow"),
+            FailedU32Conversion(_) => (13, "FailedU32Conversion"),
+            EmptyPublicInput(_) => (14, "EmptyPublicInput"),
+            EmptySecretInput(_) => (15, "EmptySecretInput"),
+            EmptySecretDigestInput => (16, "EmptySecretDigestInput"),
+            JumpStackIsEmpty => (17, "JumpStackIsEmpty"),
+            AssertionFailed { .. } => (18, "AssertionFailed"),
+            VectorAssertionFailed { .. } => (19, "VectorAssertionFailed"),
+            InverseOfZero => (20, "InverseOfZero"),
+            DivisionByZero => (21, "DivisionByZero"),
+            LogarithmOfZero => (22, "LogarithmOfZero"),
+            SpongeNotInitialized => (23, "SpongeNotInitialized"),
+            OpStackFull => (30, "OpStackFull"),
+            JumpStackFull => (31, "JumpStackFull"),
+            RamFull => (32, "RamFull"),
+            OutputFull => (33, "OutputFull"),
+            ClockAtEnd => (34, "ClockAtEnd"),
+            RecordBroken => (40, "RecordBroken"),
+            ClockFalls => (41, "ClockFalls"),
+            PointerDiffers => (42, "PointerDiffers"),
+            ReadDiffers => (43, "ReadDiffers"),
+            SliceFull => (44, "SliceFull"),
+            JobFileBroken => (50, "JobFileBroken"),
         }
     }
 
@@ -167,12 +189,6 @@ impl Refusal {
             VectorAssertionFailed { index, expected, actual } => [index, expected, actual],
             _ => [0; 3],
         }
-    }
-
-    /// The name, without the words.
-    pub fn name(self) -> String {
-        let text = format!("{self:?}");
-        text.split(['(', ' ']).next().unwrap_or_default().to_string()
     }
 }
 
@@ -236,6 +252,7 @@ mod tests {
             assert_eq!(refusal.is_some(), NUMBERS.contains(&number), "{number}");
             if let Some(refusal) = refusal {
                 assert_eq!(refusal.number(), number);
+                assert_eq!(format!("{refusal:?}").split(['(', ' ']).next(), Some(refusal.name()));
                 assert_eq!(Refusal::new(number, refusal.words()), Some(refusal));
             }
         }

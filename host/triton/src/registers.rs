@@ -7,6 +7,7 @@ use std::mem::{align_of, offset_of, size_of};
 #[repr(C)]
 #[derive(Clone, Copy, Debug, PartialEq, Eq)]
 pub struct Registers {
+    /// The steps taken.
     pub clock: u32,
     /// The instruction pointer.
     pub pointer: u64,
@@ -24,6 +25,7 @@ pub struct Registers {
     pub secrets: usize,
     /// Secret digests that were taken.
     pub digests: usize,
+    /// Whether the machine has halted.
     pub halted: bool,
     /// Whether the sponge is set.
     pub set: bool,

@@ -9,10 +9,10 @@
 //! ```
 //!
 //! The digest comes first. An instruction gives as many slots as it is long. A name with a colon stands for the slot that comes
-//! next; `call` takes such a name or a slot's number. Further items are `secret_digest` (five words), `slot` (opcode and argument, as they are) and
-//! `byte` (a byte as it is, for a broken file).
+//! next; `call` takes such a name or a slot's number. Further items are `secret_digest` (five words), `slot` (opcode and argument,
+//! as they are) and `byte` (a byte as it is, for a broken file).
 use crate::frame::{put, words};
-use crate::instructions::{Instruction, ALL};
+use crate::instructions::{decode, named, Instruction};
 use crate::job_file::JobFile;
 use crate::P;
 use std::collections::HashMap;
@@ -24,14 +24,19 @@ use std::fmt::{Display, Formatter, Result as Formatted};
 pub struct TextFault {
     /// Counted from 1.
     pub line: usize,
-    /// The word, or the item where it lacks one.
+    /// The word, or the item where it lacks one; empty where the text has none.
     pub word: String,
+    /// In words, without the place.
     pub what: String,
 }
 
 impl Display for TextFault {
     fn fmt(&self, f: &mut Formatter) -> Formatted {
-        write!(f, "line {}, `{}`: {}", self.line, self.word, self.what)
+        match self.word.as_str() {
+            "" => write!(f, "line {}: {}", self.line, self.what),
+            // a word may have letters that are not seen
+            word => write!(f, "line {}, `{}`: {}", self.line, word.escape_debug(), self.what),
+        }
     }
 }
 
@@ -40,6 +45,7 @@ impl Error for TextFault {}
 /// A job file made from text.
 #[derive(Clone, Debug, Default, PartialEq, Eq)]
 pub struct Made {
+    /// Its bytes, for [`JobFile::read`].
     pub file: Vec<u8>,
     /// What the file has as the text says it, but no job with it opens.
     pub warnings: Vec<TextFault>,
@@ -137,8 +143,11 @@ struct Maker {
     /// The slot, and the line that says it.
     labels: HashMap<String, (u64, usize)>,
     calls: Vec<Call>,
+    /// RAM addresses, and the line that says each.
+    cells: HashMap<u64, usize>,
     has_digest: bool,
     has_budget: bool,
+    is_too_long: bool,
 }
 
 /// Length 2, kind 2, opcode 2, argument 8.
@@ -154,11 +163,14 @@ impl Maker {
         let Some(&name) = item.words.first() else {
             return Ok(());
         };
-        match ALL.iter().find(|instruction| instruction.name == name) {
+        match named(name) {
             _ if !self.has_digest && name != "digest" => item.fault(name, "the first item must be the digest"),
             Some(instruction) => self.instruction(&item, instruction),
             None => self.record(&item, name),
-        }
+        }?;
+        self.warn_of_words(&item);
+        self.warn_of_length(&item);
+        Ok(())
     }
 
     /// An item that is no instruction.
@@ -177,7 +189,13 @@ impl Maker {
                 }
             }
             "secret_digest" => put(file, 15, &[&words(&item.numbers(5)?)]),
-            "ram" => put(file, 16, &[&words(&item.numbers(2)?)]),
+            "ram" => {
+                let cell = item.numbers(2)?;
+                put(file, 16, &[&words(&cell)]);
+                if let Some(line) = self.cells.insert(cell[0], item.line) {
+                    self.warn(item.line, item.words[1], format!("line {line} has this address already; open refuses it with 5"));
+                }
+            }
             "budget" if self.has_budget => return item.fault(name, "there is at most one budget"),
             "budget" => {
                 let budget = item.up_to(item.exactly(1)?[0], u32::MAX.into())?;
@@ -189,10 +207,13 @@ impl Maker {
                 let [opcode, argument] = *item.exactly(2)? else { unreachable!() };
                 let (opcode, argument) = (item.up_to(opcode, u16::MAX.into())?, item.number(argument)?);
                 self.put_slots(opcode, argument, 1);
+                match decode(opcode) {
+                    Some(instruction) => self.warn_of_argument(item, instruction, argument),
+                    None => self.warn(item.line, item.words[1], "no instruction has this opcode; open refuses it with 3"),
+                }
             }
             _ => return item.fault(name, "no item or instruction has this name"),
         }
-        self.warn_of_words(item);
         Ok(())
     }
 
@@ -216,8 +237,8 @@ impl Maker {
             [word] => item.number(word)?,
             _ => 0,
         };
-        self.warn_of_argument(item, instruction, argument);
         self.put_slots(instruction.opcode, argument, size);
+        self.warn_of_argument(item, instruction, argument);
         Ok(())
     }
 
@@ -228,22 +249,30 @@ impl Maker {
         self.slots += size;
     }
 
-    fn warn(&mut self, line: usize, word: &str, what: String) {
-        self.made.warnings.push(TextFault { line, word: word.to_string(), what });
+    fn warn(&mut self, line: usize, word: &str, what: impl Into<String>) {
+        self.made.warnings.push(TextFault { line, word: word.to_string(), what: what.into() });
     }
 
+    /// The argument is the item's last word.
     fn warn_of_argument(&mut self, item: &Item, instruction: &Instruction, argument: u64) {
-        if argument >= P {
-            self.warn_of_words(item);
-        } else if !instruction.allows(argument) {
+        if argument < P && !instruction.allows(argument) {
             let what = format!("{} does not take this argument; open refuses it with 4", instruction.name);
-            self.warn(item.line, item.words[1], what);
+            self.warn(item.line, item.words[item.words.len() - 1], what);
         }
     }
 
     fn warn_of_words(&mut self, item: &Item) {
         for word in item.words[1..].iter().filter(|word| item.number(word).is_ok_and(|number| number >= P)) {
             self.warn(item.line, word, format!("words are below {P}; open refuses it with 2"));
+        }
+    }
+
+    fn warn_of_length(&mut self, item: &Item) {
+        let (bytes, slots) = (JobFile::MOST_BYTES, JobFile::MOST_SLOTS);
+        if !self.is_too_long && (self.made.file.len() > bytes || self.slots > slots as u64) {
+            self.is_too_long = true;
+            let what = format!("a job file has at most {bytes} bytes and {slots} slots; reading it is refused with 50");
+            self.warn(item.line, item.words[0], what);
         }
     }
 
@@ -261,12 +290,6 @@ impl Maker {
         }
         if !self.has_digest {
             return Err(TextFault { line: 1, word: String::new(), what: "the text has no item, a digest is needed".to_string() });
-        }
-        let (bytes, slots) = (self.made.file.len(), self.slots);
-        if bytes > JobFile::MOST_BYTES || slots > JobFile::MOST_SLOTS as u64 {
-            let (most_bytes, most_slots) = (JobFile::MOST_BYTES, JobFile::MOST_SLOTS);
-            let what = format!("a job file has at most {most_bytes} bytes and {most_slots} slots, this one {bytes} and {slots}");
-            self.warn(1, "digest", what);
         }
         Ok(self.made)
     }

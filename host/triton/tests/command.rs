@@ -127,8 +127,35 @@ fn record_show_and_replay() {
     std::fs::write(&log.0, &altered).unwrap();
     let output = kixombu(&["show", log.name()], b"");
     let at = altered.len() - 24;
-    ends(&output, 1, &format!("kixombu: {}: byte {at}: a record of kind 4 is cut short by 1 bytes\n", log.name()));
+    let fault = format!("byte {at}: a record of kind 4 has 25 bytes, found 24");
+    ends(&output, 1, &format!("kixombu: {}: {fault}\n", log.name()));
     assert_eq!(text(&output.stdout).lines().count(), shown.lines().count() - 1);
+    altered[place * 25 + 16] -= 1;
+    std::fs::write(&log.0, &altered).unwrap();
+    let output = replay("100");
+    assert_eq!(output.status.code(), Some(1));
+    assert!(text(&output.stderr).ends_with(&format!("; {fault}\n")), "{output:?}");
+}
+
+/// A log of more bytes than a call takes is recorded, and not replayed.
+#[test]
+fn long_logs() {
+    // a turn of five steps has six records
+    let made = kixombu(&["make", "-"], b"digest 1 2 3 4 5; budget 600001; call f; f: push 1; push 2; push 3; pop 3; recurse");
+    let (job, log) = (Temporary::new("long.job"), Temporary::new("long.log"));
+    std::fs::write(&job.0, made.stdout).unwrap();
+    let output = kixombu(&["record", job.name(), log.name()], b"");
+    let warning = "kixombu: warning: replay takes logs of up to 16777216 bytes\n";
+    ends(&output, 3, &format!("kixombu: 600001 steps, 18000000 bytes; its budget is spent\n{warning}"));
+    let output = kixombu(&["replay", job.name(), log.name(), "3"], b"");
+    assert_eq!((output.status.code(), &output.stdout[..]), (Some(1), &[][..]));
+    let said = text(&output.stderr);
+    assert!(said.contains("BadShape (1)") && said.ends_with("; a log has at most 16777216 bytes, this one has more\n"), "{said}");
+    // the records that go into 16,777,216 bytes
+    std::fs::File::options().write(true).open(&log.0).unwrap().set_len(671_088 * 25).unwrap();
+    let output = kixombu(&["replay", job.name(), log.name(), "3"], b"");
+    ends(&output, 0, "");
+    assert_eq!(text(&output.stdout), "depth 18\ncells 0\nstack 16 5\nstack 17 4\n");
 }
 
 #[test]
@@ -154,11 +181,43 @@ fn usage() {
         .for_each(|part| assert!(text(&output.stdout).contains(part), "{part}"));
     assert_eq!(text(&kixombu(&["--version"], b"").stdout), "kixombu 0.1.0\n");
     ends(&kixombu(&["jump"], b""), 2, "kixombu: jump: no such verb; see kixombu --help\n");
-    ends(&kixombu(&["run"], b""), 2, "kixombu: run: these are not its files; see kixombu --help\n");
-    ends(&kixombu(&["replay", "a", "b", "c"], b""), 2, "kixombu: c: a clock is a number; see kixombu --help\n");
+    ends(&kixombu(&["run"], b""), 2, "kixombu: usage: kixombu run JOB\n");
+    ends(&kixombu(&["make", "a", "b", "c"], b""), 2, "kixombu: usage: kixombu make TEXT [JOB]\n");
+    assert_eq!(kixombu(&["show", "--help"], b"").stdout, output.stdout);
+    for clock in ["c", "-1", "18446744073709551616"] {
+        let said = format!("kixombu: {clock}: a clock is a whole number below 2^64; see kixombu --help\n");
+        ends(&kixombu(&["replay", "a", "b", clock], b""), 2, &said);
+    }
     assert_eq!(kixombu(&[], b"").status.code(), Some(2));
     let output = kixombu(&["run", "/nowhere/a.job"], b"");
     ends(&output, 2, "kixombu: /nowhere/a.job: No such file or directory (os error 2)\n");
+    // a name need not be text
+    let mut command = Command::new(env!("CARGO_BIN_EXE_kixombu"));
+    let name = <std::ffi::OsStr as std::os::unix::ffi::OsStrExt>::from_bytes(b"/nowhere/\xff");
+    let output = command.arg("run").arg(name).output().unwrap();
+    ends(&output, 2, "kixombu: /nowhere/\u{fffd}: No such file or directory (os error 2)\n");
+}
+
+/// Files without an end are given up, a reader that closes the output ends the command, and output that fails is told.
+#[test]
+fn odd_files() {
+    let output = kixombu(&["run", "/dev/zero"], b"");
+    let said = "a job file has at most 65536 bytes, this one has more";
+    ends(&output, 1, &format!("kixombu: /dev/zero: JobFileBroken (50): the job file is broken, byte 65536: {said}\n"));
+    let output = kixombu(&["make", "/dev/zero"], b"");
+    ends(&output, 1, "kixombu: /dev/zero: a text has at most 16777216 bytes, this one has more\n");
+
+    let spawned = |name: &str, out: Stdio, err: Stdio| {
+        let mut command = Command::new(env!("CARGO_BIN_EXE_kixombu"));
+        command.args(["run", &job(name)]).stdout(out).stderr(err).spawn().unwrap()
+    };
+    let full = || Stdio::from(std::fs::File::create("/dev/full").unwrap());
+    let output = spawned("add.job", full(), Stdio::piped()).wait_with_output().unwrap();
+    ends(&output, 2, "kixombu: standard output: No space left on device (os error 28)\n");
+    assert_eq!(spawned("add.job", full(), full()).wait().unwrap().code(), Some(2));
+    let mut process = spawned("endless_3000_cells.job", Stdio::piped(), Stdio::piped());
+    drop(process.stdout.take());
+    ends(&process.wait_with_output().unwrap(), 0, "");
 }
 
 /// Progress is shown of a run that takes over a second, and of no other.

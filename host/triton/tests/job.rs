@@ -2,6 +2,7 @@
 mod common;
 
 use common::open;
+use kixombu::listing::trace_in_pieces;
 use kixombu::text::make;
 use kixombu::{records, Ending, Job, JobFile, Opening, Record, Refusal, Sizes, Slot, LONGEST, P};
 
@@ -37,7 +38,28 @@ fn an_opened_job_is_as_said() {
     assert_eq!((job.output(), job.jump_stack().len(), job.taken(), job.sponge()), (&[][..], 0, [0; 3], None));
 }
 
-/// Each refusal of a step that carries words, with the words.
+#[test]
+fn the_state_is_as_said() {
+    let inputs = "public 7; public 6; secret 8; secret_digest 1 2 3 4 5";
+    let program = "push 2; merkle_step; sponge_init; read_io 2; divine 1; write_io 2; call f; f: halt";
+    let mut job = open(&format!("digest 1 2 3 4 5; {inputs}; {program}"));
+    assert_eq!(job.run(u64::MAX).ending, Ending::Halted);
+    assert_eq!((job.output(), job.taken(), job.sponge()), (&[8, 6][..], [2, 1, 1], Some([0; 16])));
+    assert_eq!(job.jump_stack().collect::<Vec<_>>(), [(12, 12)]);
+    assert_eq!((job.clock(), job.instruction_pointer(), job.is_halted()), (8, 13, true));
+    assert_eq!((job.run(1).ending, job.run(1).steps), (Ending::Halted, 0));
+    assert_eq!(job.step(), Err(Refusal::MachineHalted));
+
+    // the sponge is the last state of the permutation's record
+    let mut job = open("digest 1 2 3 4 5; sponge_init; sponge_squeeze");
+    assert!(job.step().is_ok());
+    let Some(Ok(Record::Tip5 { states, .. })) = records(job.step().unwrap()).next() else {
+        panic!("a permutation is recorded first")
+    };
+    assert_eq!(job.sponge(), Some(states[5]));
+}
+
+/// Each refusal of a step but those of the limits, and the words that it carries.
 #[test]
 fn refusals_carry_their_words() {
     let refused = |text: &str| {
@@ -56,6 +78,8 @@ fn refusals_carry_their_words() {
     assert_eq!(refused("return"), Refusal::JumpStackIsEmpty);
     assert_eq!(refused("merkle_step"), Refusal::EmptySecretDigestInput);
     assert_eq!(refused("push 0; invert"), Refusal::InverseOfZero);
+    assert_eq!(refused("push 0; push 7; div_mod"), Refusal::DivisionByZero);
+    assert_eq!(refused("push 0; log_2_floor"), Refusal::LogarithmOfZero);
     assert_eq!(refused("sponge_squeeze"), Refusal::SpongeNotInitialized);
     assert_eq!(refused("pop 1"), Refusal::OpStackTooShallow);
     assert_eq!(refused("nop"), Refusal::InstructionPointerOverflow);
@@ -102,6 +126,28 @@ fn budget_and_log_end_a_run() {
     assert!(ran.steps > 1 && ran.bytes > 25, "{ran:?}");
     let mut long = vec![0; LONGEST + 1];
     assert_eq!(job.trace_execution(1, &mut long).ending, Ending::Refused(Refusal::BadShape));
+}
+
+/// A log of any length comes in pieces, here of over 60 MiB; an error ends the run.
+#[test]
+fn pieces_of_a_long_log() {
+    let opened = open("digest 1 2 3 4 5; call f; f: push 1; push 2; push 3; pop 3; recurse");
+    let mut pieces = 0;
+    let ran = trace_in_pieces(&mut opened.clone(), 2_500_001, |_, _| {
+        pieces += 1;
+        Ok(())
+    })
+    .unwrap();
+    // a turn of five steps has six records
+    assert_eq!((ran.ending, ran.steps, ran.bytes), (Ending::Spent, 2_500_001, 75_000_000));
+    assert!(pieces >= 70, "{pieces}");
+    let mut taken = 0;
+    let failed = trace_in_pieces(&mut opened.clone(), u64::MAX, |_, steps| {
+        taken = steps;
+        Err(std::io::Error::other("enough"))
+    });
+    assert_eq!(failed.unwrap_err().to_string(), "enough");
+    assert!(taken > 0);
 }
 
 #[test]

@@ -1,6 +1,6 @@
 //! Job files that are broken, each reason of document 01's number 50 once, and where.
 use kixombu::frame::put;
-use kixombu::JobFile;
+use kixombu::{JobFile, Opening, Slot};
 
 fn file(records: &[(u16, usize)]) -> Vec<u8> {
     let mut file = vec![];
@@ -38,7 +38,7 @@ fn each_cut_is_seen() {
         assert_eq!(JobFile::read(&whole[..length]).is_ok(), [44, 58, 66].contains(&length), "{length}");
     }
     assert_eq!(fault(&whole[..60]), "byte 58: a record begins with four bytes, found 2");
-    assert_eq!(fault(&whole[..65]), "byte 58: a record of kind 17 is cut short by 1 bytes");
+    assert_eq!(fault(&whole[..65]), "byte 58: a record of kind 17 has 8 bytes, found 7");
 }
 
 #[test]
@@ -47,12 +47,25 @@ fn limits() {
     records[0] = DIGEST;
     assert_eq!(fault(&file(&records)), "sound");
     records.push((12, 10));
-    assert_eq!(fault(&file(&records)), "byte 14380: a program has at most 1024 slots");
+    assert_eq!(fault(&file(&records)), "byte 14380: a program has at most 1024 slots, this one has more");
     // 44 + 12 * 5,457 + 8: exactly 65,536 bytes
     let mut records = vec![(13, 8); 5459];
     (records[0], records[5458]) = (DIGEST, (17, 4));
     assert_eq!(file(&records).len(), 65_536);
     assert_eq!(fault(&file(&records)), "sound");
     records[5458] = (13, 8);
-    assert_eq!(fault(&file(&records)), "byte 65536: a job file has at most 65536 bytes, found 65540");
+    assert_eq!(fault(&file(&records)), "byte 65536: a job file has at most 65536 bytes, this one has more");
+}
+
+/// What cannot be read back is not written.
+#[test]
+fn what_no_file_holds_is_not_written() {
+    let written = |opening: Opening| JobFile { opening, budget: 7 }.write().map_err(|fault| fault.to_string());
+    let slots = |opcode, n| Opening { program: vec![Slot { opcode, argument: 0 }; n], ..Opening::default() };
+    let words = |n| Opening { public_input: vec![0; n], ..Opening::default() };
+    assert_eq!(JobFile::read(&written(slots(65_535, 1024)).unwrap()), Ok(JobFile { opening: slots(65_535, 1024), budget: 7 }));
+    assert_eq!(written(slots(65_536, 1)), Err("byte 44: an opcode is at most 65535, found 65536 in slot 0".to_string()));
+    assert_eq!(written(slots(0, 1025)), Err("byte 14380: a program has at most 1024 slots, this one has more".to_string()));
+    assert_eq!(written(words(5457)).unwrap().len(), 65_536);
+    assert_eq!(written(words(5458)), Err("byte 65536: a job file has at most 65536 bytes, this one has more".to_string()));
 }

@@ -20,7 +20,7 @@ fn texts_make_the_files() {
 fn files_come_back() {
     for name in names().into_iter().filter(|name| name != "broken") {
         let file = JobFile::read(&read(&name, "job")).unwrap();
-        assert_eq!(JobFile::read(&file.write()), Ok(file), "{name}");
+        assert_eq!(JobFile::read(&file.write().unwrap()), Ok(file), "{name}");
     }
 }
 

@@ -53,8 +53,9 @@ fn every_instruction_is_known() {
 #[test]
 fn bad_texts() {
     for (text, fault) in [
-        ("", "line 1, ``: the text has no item, a digest is needed"),
-        ("\n# nothing\n", "line 1, ``: the text has no item, a digest is needed"),
+        ("", "line 1: the text has no item, a digest is needed"),
+        ("\n# nothing\n", "line 1: the text has no item, a digest is needed"),
+        ("\u{feff}digest 1 2 3 4 5", "line 1, `\\u{feff}digest`: the first item must be the digest"),
         ("push 1; digest 1 2 3 4 5", "line 1, `push`: the first item must be the digest"),
         ("digest 1 2 3 4", "line 1, `digest 1 2 3 4`: digest takes 5 words behind it, found 4"),
         ("digest 1 2 3 4 5\ndigest 1 2 3 4 5", "line 2, `digest`: there is one digest, the first item"),
@@ -95,6 +96,13 @@ fn warnings_say_what_open_will_refuse() {
     let large = format!("`{P}`: words are below {P}; open refuses it with 2");
     assert_eq!(warnings(&format!("push {P}")), [format!("line 2, {large}")]);
     assert_eq!(warnings(&format!("ram 1 {P}; pop 5")), [format!("line 2, {large}")]);
-    assert_eq!(warnings(&"nop;".repeat(1025)).len(), 1);
-    assert_eq!(warnings(&"nop;".repeat(1024)).len(), 0);
+    assert_eq!(warnings("slot 5 1; slot 3 5"), ["line 2, `5`: no instruction has this opcode; open refuses it with 3"]);
+    assert_eq!(warnings("slot 3 9"), ["line 2, `9`: pop does not take this argument; open refuses it with 4"]);
+    assert_eq!(warnings("ram 3 1\nram 3 1"), ["line 3, `3`: line 2 has this address already; open refuses it with 5"]);
+    let long = "a job file has at most 65536 bytes and 1024 slots; reading it is refused with 50";
+    assert_eq!(warnings(&"nop\n".repeat(1026)), [format!("line 1026, `nop`: {long}")]);
+    assert_eq!(warnings(&"nop\n".repeat(1024)).len(), 0);
+    // 44 + 12 * 5,457 bytes are within the limit
+    assert_eq!(warnings(&format!("public{}", " 1".repeat(5458))), [format!("line 2, `public`: {long}")]);
+    assert_eq!(warnings(&format!("public{}", " 1".repeat(5457))).len(), 0);
 }
