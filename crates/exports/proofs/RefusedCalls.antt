@@ -1,12 +1,13 @@
 -- A call that is refused gives the refusal's number and words, and changes nothing that is lent: where the slices do not fit, and where place A
--- refuses. A step so refused at a later place, too. Assumes nothing.
+-- refuses. A step so refused at a later place, too, and a replay at any. Assumes nothing.
 use mathlib.Core.Path.{_≡_, refl, sym, ap, _∙_}
 use mathlib.Core.Bool.{true, false}
-use mathlib.Core.List.{List}
+use mathlib.Core.List.{List, [], _∷_}
 use Prim.Native.Nat.{ℕ}
-use borrow.Author.Tests.{ne-eqb}
-use lib.ListN.{replicate}
+use borrow.Author.Tests.{eq-eqb, ne-eqb}
+use lib.ListN.{length, replicate}
 use Rattle.machine.specs.Refusal.{Refusal, plainly}
+use Rattle.machine.specs.Ram.{Cells}
 use Rattle.machine.specs.Machine.{Code, Memory, Machine, machine}
 use Rattle.machine.specs.Apply.{kept, lost}
 use Rattle.machine.specs.PlaceA.{machineA, stepA, openA}
@@ -15,6 +16,8 @@ use Rattle.machine.specs.Step.{Stepped, stepOf}
 use Rattle.machine.proofs.Logged.{logged-none}
 use Rattle.machine.proofs.Step.{refused-buffer, lost-buffer}
 use Rattle.machine.proofs.Refused.{step-refuses, run-refuses, open-refuses, helpers-refused}
+use Rattle.replay.specs.Replay.{replayOf}
+use Rattle.replay.proofs.Refused as R
 use Rattle.vm.specs.Trace.{traceA, traceExecutionOf}
 use Rattle.inner_step.specs.AnswerView.{answeredBy, leftBy}
 use Rattle.exports.specs.Registers.{stateOf}
@@ -24,8 +27,10 @@ use Rattle.exports.specs.StepCall.{stepCall}
 use Rattle.exports.specs.RunCall.{runGives, runCall, traceCall}
 use Rattle.exports.specs.OpenCall.{openFitsOf, openGives, openCall}
 use Rattle.exports.specs.HelperCall.{helped, noHelpers, helperCall}
+use Rattle.exports.specs.ReplayCall.{replied, replayCall}
 use Rattle.exports.proofs.RegistersLaws.{registers-state}
 use Rattle.exports.proofs.CallsLaws.{fits-facts}
+use Rattle.exports.proofs.ReplayCallLaws.{replay-misfits}
 
 -- what a call gives that is refused before a step
 abbrev pub refusedCall : List ℕ → Memory → Refusal → Called
@@ -53,6 +58,9 @@ open-misfit w a g n c m h = rw h
 pub helper-misfit : (w v : List ℕ) (c : Code) (m : Memory) → fitsOf w v 6 ≡ false → helperCall w v c m ≡ helped 1 (noHelpers v)
 unfolding helperCall
 helper-misfit w v c m h = rw h
+
+pub replay-misfit : (a log s : List ℕ) (j : ℕ) (c : Cells) → (length a ≡ 3 → ⊥) → replayCall a log j c s ≡ replied 1 a s (c .addresses) (c .values)
+replay-misfit a log s j c h = sym (replay-misfits a log s j c h)
 
 -- ---- refused
 
@@ -102,3 +110,12 @@ pub helper-refused : (w v : List ℕ) (c : Code) (m : Memory) → fitsOf w v 6 �
     helperCall w v c m ≡ helped (machineA (machine (stateOf w) c m)) (replicate 6 0)
 unfolding helperCall
 helper-refused w v c m h z = rw h (helpers-refused (machine (stateOf w) c m) z)
+
+-- at any place: depth and cell count are 0, and the stack slice and the RAM slices stay
+pub replay-refused : (a log s : List ℕ) (j : ℕ) (c : Cells) → length a ≡ 3 → (replayOf log c s j .number ≡ 0 → ⊥) →
+    replayCall a log j c s ≡ replied (replayOf log c s j .number) (replayOf log c s j .number ∷ 0 ∷ 0 ∷ []) s (c .addresses) (c .values)
+unfolding replayCall
+replay-refused a log s j c h z =
+    let u = R.replay-refused log c s j z in
+    let n = replayOf log c s j .number in
+    rw (eq-eqb (length a) 3 h) (λ d. replied n (n ∷ u .depth d ∷ u .count d ∷ []) (u .words d) (u .addresses d) (u .values d))

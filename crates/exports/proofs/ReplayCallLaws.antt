@@ -8,14 +8,14 @@ use Rattle.machine.specs.Ram.{Cells, cells}
 use Rattle.replay.specs.declared.replay.Answer.{Answer}
 use Rattle.replay.specs.Replay.{replayOf}
 use Rattle.replay.specs.ReplayView.{replayedBy}
-use Rattle.exports.specs.ReplayCall.{rebuilt, replayGives, replayCall}
+use Rattle.exports.specs.ReplayCall.{replied, replayGives, replayCall}
 
 module _ (a log s : List ℕ) (j : ℕ) (c : Cells) where
-  pub replay-misfits : (length a ≡ 3 → ⊥) → rebuilt 1 a s (c .addresses) (c .values) ≡ replayCall a log j c s
+  pub replay-misfits : (length a ≡ 3 → ⊥) → replied 1 a s (c .addresses) (c .values) ≡ replayCall a log j c s
   unfolding replayCall
   replay-misfits h = rw (ne-eqb (length a) 3 h)
 
   pub replay-called : (r : Answer) (b t addresses values : List ℕ) → length a ≡ 3 → replayedBy r t (cells (r .cells) addresses values) ≡ replayOf log c s j →
-      b ≡ (r .number ∷ r .depth ∷ r .cells ∷ []) → rebuilt (r .number) b t addresses values ≡ replayCall a log j c s
+      b ≡ (r .number ∷ r .depth ∷ r .cells ∷ []) → replied (r .number) b t addresses values ≡ replayCall a log j c s
   unfolding replayCall
   replay-called r b t addresses values h e w = rw (eq-eqb (length a) 3 h, ← e, w)

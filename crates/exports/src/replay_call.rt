@@ -3,7 +3,7 @@ ghost use mathlib.Core.Path.{_≡_};
 ghost use mathlib.Core.List.{[] as Nil, _∷_};
 ghost use lib.ListN.{length};
 ghost use Rattle.machine.specs.Ram.{cells as cellsOf};
-ghost use Rattle.exports.specs.ReplayCall.{rebuilt as rebuiltBy, replayCall};
+ghost use Rattle.exports.specs.ReplayCall.{replied, replayCall};
 use replay::replay::Answer;
 use replay::replay::replay;
 use tip5::words::copy;
@@ -27,7 +27,7 @@ pub extern "C" fn triton_replay(
     values: &mut [u64],
     words: &mut [u64],
 ) -> u64
-    ensures { λ r. ⌜ rebuiltBy r (now (rebuilt .exit)) (now (words .exit)) (now (addresses .exit)) (now (values .exit))
+    ensures { λ r. ⌜ replied r (now (rebuilt .exit)) (now (words .exit)) (now (addresses .exit)) (now (values .exit))
         ≡ replayCall (now (rebuilt .entry)) (now (log .entry)) clock (cellsOf cells (now (addresses .entry)) (now (values .entry))) (now (words .entry)) ⌝ }
 {
     if rebuilt.len() != 3 {

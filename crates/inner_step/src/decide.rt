@@ -93,7 +93,7 @@ pub fn act(
         19 => input_output::write_io(w, n),
         80 => many_in_one::xx_dot_step(addresses, values, count, w),
         88 => many_in_one::xb_dot_step(addresses, values, count, w),
-        _ => effect::refuse(InstructionError::UnknownOpcode),
+        _ => effect::refuse(InstructionError::InvalidOpcode),
     }
 }
 
@@ -119,7 +119,7 @@ pub fn act_hashing(
         56 => hashing::sponge_squeeze(sponge),
         36 => many_in_one::merkle_step(digests, taken, w),
         44 => many_in_one::merkle_step_mem(addresses, values, count, w),
-        _ => hashing::refused(InstructionError::UnknownOpcode),
+        _ => hashing::refused(InstructionError::InvalidOpcode),
     }
 }
 

@@ -78,7 +78,7 @@ fn act(
         65 => arithmetic::addi(w, argument),
         50 => arithmetic::mul(w),
         58 => arithmetic::eq(w),
-        _ => effect::refuse(InstructionError::UnknownOpcode),
+        _ => effect::refuse(InstructionError::InvalidOpcode),
     }
 }
 

@@ -21,7 +21,7 @@ use Rattle.machine.specs.Records.{callRecords, growing, shrinking, stackRecords
 use Rattle.machine.specs.Logged.{logged}
 use Rattle.job.specs.Frame.{kindIn, wholeBy, sizeBy}
 use Rattle.job.specs.JobFile.{Job, lengthIn, fileRecord, pieceKind, pieceSize, pieceIn, piecesIn, piecesOf, countOf, numbersIn, column, faultOf, jobOf}
-use Rattle.job.specs.Example.{digestRecord, exampleFile, exampleText, emptyFile, lateDigest, twoDigests, twoBudgets, unknownKind, logKind, otherLength, cutFields, cutLength}
+use Rattle.job.specs.Example.{digestRecord, exampleFile, exampleText}
 use Rattle.job.specs.Listing.{digitsOf, decimalOf, fieldOf, directionText, stackLine, outLine, countsOf, haltedLine, refusedLine}
 use Rattle.job.specs.LogLines.{lineOf, linesOf}
 use Rattle.job.specs.Printed.{outLines, endLine, recordsBy, runLines, jobLines, printedOf}
@@ -53,44 +53,6 @@ example-lines = refl
 pub example : printedOf exampleFile ≡ exampleText
 example = ap jobLines example-job ∙ example-lines
 
--- ---- each reason for 50
-
-pub empty-file : jobOf emptyFile .number ≡ 50
-unfolding emptyFile fileRecord lengthIn pieceKind pieceSize pieceIn piecesIn piecesOf countOf numbersIn column faultOf jobOf kindIn wholeBy sizeBy bytesOf numberOf firstOf aboveOf differOf
-empty-file = refl
-
-pub late-digest : jobOf lateDigest .number ≡ 50
-unfolding lateDigest fileRecord lengthIn pieceKind pieceSize pieceIn piecesIn piecesOf countOf numbersIn column faultOf jobOf kindIn wholeBy sizeBy bytesOf numberOf firstOf aboveOf differOf
-late-digest = refl
-
-pub two-digests : jobOf twoDigests .number ≡ 50
-unfolding twoDigests fileRecord lengthIn pieceKind pieceSize pieceIn piecesIn piecesOf countOf numbersIn column faultOf jobOf kindIn wholeBy sizeBy bytesOf numberOf firstOf aboveOf differOf
-two-digests = refl
-
-pub two-budgets : jobOf twoBudgets .number ≡ 50
-unfolding twoBudgets fileRecord lengthIn pieceKind pieceSize pieceIn piecesIn piecesOf countOf numbersIn column faultOf jobOf kindIn wholeBy sizeBy bytesOf numberOf firstOf aboveOf differOf
-two-budgets = refl
-
-pub unknown-kind : jobOf unknownKind .number ≡ 50
-unfolding unknownKind fileRecord lengthIn pieceKind pieceSize pieceIn piecesIn piecesOf countOf numbersIn column faultOf jobOf kindIn wholeBy sizeBy bytesOf numberOf firstOf aboveOf differOf
-unknown-kind = refl
-
-pub log-kind : jobOf logKind .number ≡ 50
-unfolding logKind fileRecord lengthIn pieceKind pieceSize pieceIn piecesIn piecesOf countOf numbersIn column faultOf jobOf kindIn wholeBy sizeBy bytesOf numberOf firstOf aboveOf differOf
-log-kind = refl
-
-pub other-length : jobOf otherLength .number ≡ 50
-unfolding otherLength fileRecord lengthIn pieceKind pieceSize pieceIn piecesIn piecesOf countOf numbersIn column faultOf jobOf kindIn wholeBy sizeBy bytesOf numberOf firstOf aboveOf differOf
-other-length = refl
-
-pub cut-fields : jobOf cutFields .number ≡ 50
-unfolding cutFields fileRecord lengthIn pieceKind pieceSize pieceIn piecesIn piecesOf countOf numbersIn column faultOf jobOf kindIn wholeBy sizeBy bytesOf numberOf firstOf aboveOf differOf
-cut-fields = refl
-
-pub cut-length : jobOf cutLength .number ≡ 50
-unfolding cutLength fileRecord lengthIn pieceKind pieceSize pieceIn piecesIn piecesOf countOf numbersIn column faultOf jobOf kindIn wholeBy sizeBy bytesOf numberOf firstOf aboveOf differOf
-cut-length = refl
-
 -- ---- the longest number
 
 pub twenty-digits : decimalOf 18446744073709551615 ≡ 49 ∷ 56 ∷ 52 ∷ 52 ∷ 54 ∷ 55 ∷ 52 ∷ 52 ∷ 48 ∷ 55 ∷ 51 ∷ 55 ∷ 48 ∷ 57 ∷ 53 ∷ 53 ∷ 49 ∷ 54 ∷ 49 ∷ 53 ∷ []
@@ -104,7 +66,7 @@ pub digest-alone : printedOf digestRecord ≡ 101 ∷ 110 ∷ 100 ∷ 32 ∷ 114
 unfolding refusedLine jobLines runLines recordsBy endLine outLines lineOf linesOf digitsOf decimalOf fieldOf directionText stackLine outLine countsOf haltedLine logged callRecords growing shrinking stackRecords recordsOf outcomeBy stepsBy openedStack opened openOf code1 memory1 code2 opcodes3 arguments4 code34 openA appliedStack touched performed limitsOf settled effectOf decideOf addOf fromTop reversed writeIoOf haltOf pushOf topOf table decode sizeOf placeFrom find held cells1 cells2 cells5 twiceOf wordOf2 wordsOf zerosFrom firstOf aboveOf differOf fileRecord lengthIn pieceKind pieceSize pieceIn piecesIn piecesOf countOf numbersIn column faultOf jobOf kindIn wholeBy sizeBy bytesOf numberOf
 digest-alone = refl
 
--- a broken file: "end refused 50 0 0 0"
-pub broken-file : printedOf emptyFile ≡ 101 ∷ 110 ∷ 100 ∷ 32 ∷ 114 ∷ 101 ∷ 102 ∷ 117 ∷ 115 ∷ 101 ∷ 100 ∷ 32 ∷ 53 ∷ 48 ∷ 32 ∷ 48 ∷ 32 ∷ 48 ∷ 32 ∷ 48 ∷ 10 ∷ []
-unfolding emptyFile jobLines refusedLine countsOf fieldOf decimalOf digitsOf fileRecord lengthIn pieceKind pieceSize pieceIn piecesIn piecesOf countOf numbersIn column faultOf jobOf kindIn wholeBy sizeBy bytesOf numberOf firstOf aboveOf differOf
+-- an empty file is broken: "end refused 50 0 0 0"
+pub broken-file : printedOf [] ≡ 101 ∷ 110 ∷ 100 ∷ 32 ∷ 114 ∷ 101 ∷ 102 ∷ 117 ∷ 115 ∷ 101 ∷ 100 ∷ 32 ∷ 53 ∷ 48 ∷ 32 ∷ 48 ∷ 32 ∷ 48 ∷ 32 ∷ 48 ∷ 10 ∷ []
+unfolding jobLines refusedLine countsOf fieldOf decimalOf digitsOf fileRecord lengthIn pieceKind pieceSize pieceIn piecesIn piecesOf countOf numbersIn column faultOf jobOf kindIn wholeBy sizeBy bytesOf numberOf firstOf aboveOf differOf
 broken-file = refl

@@ -16,6 +16,7 @@ use Rattle.machine.specs.InstructionView.{knownIn}
 use Rattle.machine.specs.Machine.{Code, Memory, code}
 use Rattle.machine.specs.PlaceA.{code1, memory1, unknown3, argument4, opcodes3, arguments4, code34}
 use Rattle.machine.proofs.Choice.{first-zero, first-left, first-nil, above-not, above-is, differ-nil}
+use Rattle.machine.proofs.Words.{word-fine, word-not}
 
 -- ---- a check that stops at the first number
 
@@ -71,12 +72,10 @@ unfolding wordsOf
 words-turn s n = refl
 
 pub words-more : (s : List ℕ) (i : ℕ) → wordsOf s i ≡ 0 → getD s i 0 ≤ 18446744069414584320 → wordsOf s (i + 1) ≡ 0
-unfolding wordOf2
-words-more s i h l = scan-more (wordsOf s) _ (words-turn s) i h (above-not (getD s i 0) 18446744069414584320 2 l)
+words-more s i h l = scan-more (wordsOf s) _ (words-turn s) i h (word-fine (getD s i 0) (omega arith))
 
 pub words-stop : (s : List ℕ) (i n : ℕ) → i < n → wordsOf s i ≡ 0 → 18446744069414584320 < getD s i 0 → wordsOf s n ≡ 2
-unfolding wordOf2
-words-stop s i n m h l = scan-stop (wordsOf s) _ (words-turn s) i n 2 m (omega arith) h (above-is (getD s i 0) 18446744069414584320 2 l)
+words-stop s i n m h l = scan-stop (wordsOf s) _ (words-turn s) i n 2 m (omega arith) h (word-not (getD s i 0) (omega arith))
 
 pub words-end : (s : List ℕ) (i n : ℕ) → i ≤ n → n ≤ i → wordsOf s i ≡ 0 → 0 ≡ wordsOf s n
 words-end s i n l m h =

@@ -1,14 +1,14 @@
--- Only skiz drops a word, and then the depth is 17 or more: so place A accepts what a refused skiz leaves, as it accepts what a step and
--- a run leave. Assumes nothing.
+-- Only skiz drops a word: on 0, where no slot is next, with 11; and then the depth is 17 or more, so place A accepts what a refused skiz
+-- leaves, as it accepts what a step and a run leave. Assumes nothing.
 use mathlib.Core.Path.{_≡_, refl, subst}
 use mathlib.Core.Bool.{Bool, true, false}
 use Prim.Native.Nat.{ℕ, _+_, _^_, _≤_}
 use native.Mathlib.Omega.{arith}
-use borrow.Author.Tests.{ltb-false}
+use borrow.Author.Tests.{eqb-true, ltb-false}
 use lib.ListN.{length}
 use lib.Dec.{eqb, ltb}
 use Rattle.machine.specs.Choice.{cond}
-use Rattle.machine.specs.Refusal.{Refusal, opStackTooShallow}
+use Rattle.machine.specs.Refusal.{Refusal, instructionPointerOverflow, opStackTooShallow}
 use Rattle.machine.specs.Instruction.{Row, table, Decoded, known, unknown, decode, grownBy, shrunkBy}
 use Rattle.machine.specs.Instruction as I
 use Rattle.machine.specs.Machine.{Machine, JumpTop, empty, entry, jumpTop, top, st, publicLeft, secretLeft, digestsLeft}
@@ -32,16 +32,21 @@ use Rattle.machine.proofs.Facts.{facts}
 use Rattle.machine.proofs.Step.{step-sound, step-lost}
 use Rattle.machine.proofs.Run.{lost-sound, run-sound}
 
--- P where a decision drops
-pub data Drops (P : Type 0) : Decision → Type 0 where
+-- P of the refusal where a decision drops
+pub data Drops (P : Refusal → Type 0) : Decision → Type 0 where
   acting : {e : Effect} → Drops P (acts e)
   refusing : {r : Refusal} → Drops P (refuses r)
-  dropping : {r : Refusal} → P → Drops P (drops r)
+  dropping : {r : Refusal} → P r → Drops P (drops r)
 
-dropped-by : {P : Type 0} {r : Refusal} → Drops P (drops r) → P
+dropped-by : {P : Refusal → Type 0} {r : Refusal} → Drops P (drops r) → P r
 dropped-by (dropping h) = h
 
-module _ {P : Type 0} where
+drops-map : {P Q : Refusal → Type 0} {d : Decision} → ((r : Refusal) → P r → Q r) → Drops P d → Drops Q d
+drops-map f acting = acting
+drops-map f refusing = refusing
+drops-map f (dropping {r} h) = dropping (f r h)
+
+module _ {P : Refusal → Type 0} where
   either : {a b : Decision} (t : Bool) → Drops P a → Drops P b → Drops P (cond t a b)
   either true h k = h
   either false h k = k
@@ -56,9 +61,30 @@ module _ {P : Type 0} where
   of-recurse empty = refusing
   of-recurse (entry o d) = acting
 
+-- when skiz drops, and with what
+record NothingNext (m : Machine) (r : Refusal) : Type 0 where
+  zero : st (top m) 0 ≡ 0
+  last : length (m .code .opcodes) ≤ m .state .pointer + 1
+  number : r ≡ instructionPointerOverflow
+
+of-skiz : (m : Machine) → Drops (NothingNext m) (skizOf (m .code .opcodes) (m .state .pointer) (top m))
+unfolding skizOf
+of-skiz m = go _ _ (eqb (st (top m) 0) 0) (ltb (m .state .pointer + 1) (length (m .code .opcodes))) refl refl
+  where
+    go : (a b : Effect) (t u : Bool) → eqb (st (top m) 0) 0 ≡ t → ltb (m .state .pointer + 1) (length (m .code .opcodes)) ≡ u →
+        Drops (NothingNext m) (cond t (cond u (acts a) (drops instructionPointerOverflow)) (acts b))
+    go a b true true e k = acting
+    go a b true false e k = dropping (record { zero = eqb-true (st (top m) 0) 0 e; last = ltb-false (m .state .pointer + 1) (length (m .code .opcodes)) k; number = refl })
+    go a b false u e k = acting
+
 -- a row's instruction drops only if it is skiz, which takes one word more than it puts on
+record SkizDrops (m : Machine) (row : Row) (n : ℕ) (r : Refusal) : Type 0 where
+  is-skiz : row .instruction ≡ I.skiz
+  shrinks : 1 + grownBy (row .change) n ≤ shrunkBy (row .change) n
+  next : NothingNext m r
+
 abbrev RowDrops : Machine → Row → Type 0
-RowDrops m r = (n : ℕ) → Drops ((r .instruction ≡ I.skiz) × (1 + grownBy (r .change) n ≤ shrunkBy (r .change) n)) (effectOf (r .instruction) n m)
+RowDrops m row = (n : ℕ) → Drops (SkizDrops m row n) (effectOf (row .instruction) n m)
 
 rows : (m : Machine) → Each (RowDrops m) table
 unfolding table effectOf pushOf popOf divineOf pickOf placeOf dupOf swapOf haltOf nopOf skizOf callOf recurseOrReturnOf assertOf readMemOf writeMemOf hashOf assertFrom assertVectorOf spongeInitOf spongeAbsorbOf spongeAbsorbMemOf spongeSqueezeOf addOf addiOf mulOf invertOf eqOf xxAddOf xxMulOf xInvertOf xbMulOf splitOf ltOf andOf xorOf log2FloorOf powOf divModOf popCountOf readIoOf writeIoOf merkleStepOf merkleStepMemOf xxDotStepOf xbDotStepOf
@@ -73,7 +99,7 @@ rows m =
     (λ n. acting)
     (λ n. acting)
     (λ n. acting)
-    (λ n. either (eqb (st (top m) 0) 0) (either (ltb (m .state .pointer + 1) (length (m .code .opcodes))) acting (dropping (refl, omega arith))) acting)
+    (λ n. drops-map (λ q h. record { is-skiz = refl; shrinks = omega arith; next = h }) (of-skiz m))
     (λ n. acting)
     (λ n. of-return (jumpTop m))
     (λ n. of-recurse (jumpTop m))
@@ -111,42 +137,52 @@ rows m =
     (λ n. acting)
     (λ n. acting)
 
-drops-map : {P Q : Type 0} {d : Decision} → (P → Q) → Drops P d → Drops Q d
-drops-map f acting = acting
-drops-map f refusing = refusing
-drops-map f (dropping h) = dropping (f h)
-
--- what is known where a word is dropped
-pub record AtSkiz (m : Machine) : Type 0 where
+-- what is known where a word is dropped and r is given
+pub record AtSkiz (m : Machine) (r : Refusal) : Type 0 where
   pub row : Row
   pub decodes : decode (opcodeOf m) ≡ known row
   pub is-skiz : row .instruction ≡ I.skiz
   pub deep : 17 ≤ m .state .depth
+  -- ST 0 is 0, and no slot is next: 11
+  pub zero : st (top m) 0 ≡ 0
+  pub last : length (m .code .opcodes) ≤ m .state .pointer + 1
+  pub number : r ≡ instructionPointerOverflow
 
 -- at the depths that 12 lets pass
-deep-enough : {S : Type 0} (d g s : ℕ) (t : Bool) → ltb (d + g) (16 + s) ≡ t → (r : Refusal) (x : Decision) → Drops (S × (1 + g ≤ s)) x → Drops (S × (17 ≤ d)) (cond t (refuses r) x)
-deep-enough d g s true e r x h = refusing
-deep-enough d g s false e r x h = drops-map (λ k. (k .0, omega (arith, ltb-false (d + g) (16 + s) e, k .1))) h
+deep-enough : (m : Machine) (row : Row) (n : ℕ) (t : Bool) → ltb (m .state .depth + grownBy (row .change) n) (16 + shrunkBy (row .change) n) ≡ t → (x : Decision) →
+    Drops (SkizDrops m row n) x → decode (opcodeOf m) ≡ known row → Drops (AtSkiz m) (cond t (refuses opStackTooShallow) x)
+deep-enough m row n true e x h d = refusing
+deep-enough m row n false e x h d = drops-map at h
+  where
+    at : (r : Refusal) → SkizDrops m row n r → AtSkiz m r
+    at r k = record {
+      row = row;
+      decodes = d;
+      is-skiz = k .is-skiz;
+      deep = omega (arith, ltb-false (m .state .depth + grownBy (row .change) n) (16 + shrunkBy (row .change) n) e, k .shrinks);
+      zero = k .next .zero;
+      last = k .next .last;
+      number = k .next .number;
+    }
 
 skiz-in : (m : Machine) (d : Decoded) → decode (opcodeOf m) ≡ d → Drops (AtSkiz m) (decideIn d (argumentOf m) m)
 skiz-in m unknown e = refusing
 skiz-in m (known r) e =
-    drops-map (λ k. record { row = r; decodes = e; is-skiz = k .0; deep = k .1 })
-    (deep-enough (m .state .depth) (grownBy (r .change) (argumentOf m)) (shrunkBy (r .change) (argumentOf m)) (ltb (m .state .depth + grownBy (r .change) (argumentOf m)) (16 + shrunkBy (r .change) (argumentOf m))) refl opStackTooShallow (effectOf (r .instruction) (argumentOf m) m)
-    (each-decode (RowDrops m) (opcodeOf m) r (rows m) e (argumentOf m)))
+    deep-enough m r (argumentOf m) (ltb (m .state .depth + grownBy (r .change) (argumentOf m)) (16 + shrunkBy (r .change) (argumentOf m))) refl (effectOf (r .instruction) (argumentOf m) m)
+    (each-decode (RowDrops m) (opcodeOf m) r (rows m) e (argumentOf m)) e
 
 only-skiz : (m : Machine) → Drops (AtSkiz m) (decideOf m)
 unfolding decideOf
 only-skiz m = either (m .state .halted) refusing (either (ltb (m .state .pointer) (length (m .code .opcodes))) (skiz-in m (decode (opcodeOf m)) refl) refusing)
 
-drops-skiz : (m : Machine) (r : Refusal) → decideOf m ≡ drops r → AtSkiz m
+drops-skiz : (m : Machine) (r : Refusal) → decideOf m ≡ drops r → AtSkiz m r
 drops-skiz m r e = dropped-by (subst (Drops (AtSkiz m)) e (only-skiz m))
 
 pub drops-deep : (m : Machine) (r : Refusal) → decideOf m ≡ drops r → 17 ≤ m .state .depth
 drops-deep m r e = drops-skiz m r e .deep
 
--- a refused step changes nothing, but that skiz drops its word
-pub lost-at-skiz : (m : Machine) (r : Refusal) (x : Machine) → outcomeBy decideOf m ≡ lost r x → AtSkiz m × (dropped m ≡ x)
+-- a refused step changes nothing, but that skiz drops its word where it gives 11
+pub lost-at-skiz : (m : Machine) (r : Refusal) (x : Machine) → outcomeBy decideOf m ≡ lost r x → AtSkiz m r × (dropped m ≡ x)
 lost-at-skiz m r x e = let k = step-lost decideOf m r x e in (drops-skiz m r (k .0), k .1)
 
 -- ---- what a step and a run leave passes place A

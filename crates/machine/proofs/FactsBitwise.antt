@@ -1,18 +1,20 @@
 -- Arithmetic on u32: what holds of the effect that each instruction acts. Assumes nothing.
-use mathlib.Core.Path.{refl}
+use mathlib.Core.Path.{_≡_, refl}
 use mathlib.Core.Bool.{Bool, true, false}
-use mathlib.Core.List.{[], _∷_}
+use mathlib.Core.List.{List, [], _∷_}
 use Prim.Native.Nat.{ℕ, zero, suc, _+_, _*_, _/_, _%_, _^_, _≤_, _<_}
 use native.Mathlib.Nat.{mod-le, div-le-self, two-pow-succ}
 use native.Mathlib.Omega.{arith}
+use borrow.Author.Tests.{le-ltb}
 use lib.ListN.{length}
 use lib.Dec.{eqb, ltb, lit<}
 use Rattle.field.specs.Base.{p}
 use Rattle.field.proofs.Ring.{below}
 use Rattle.machine.specs.Choice.{cond}
 use Rattle.machine.specs.Words.{none, more}
+use Rattle.machine.specs.Refusal.{failedU32Conversion}
 use Rattle.machine.specs.Machine.{Machine, st, top, ram}
-use Rattle.machine.specs.Effect.{u32}
+use Rattle.machine.specs.Effect.{u32, refuses}
 use Rattle.machine.specs.Bits.{onesOf, highestOf, bothOf, eitherOf}
 use Rattle.machine.specs.Bitwise.{splitOf, ltOf, andOf, xorOf, log2FloorOf, powOf, divModOf, popCountOf}
 use Rattle.machine.specs.Sound.{Sound, Honest}
@@ -52,6 +54,14 @@ either-small : (n a b : ℕ) → eitherOf n a b < 2 ^ n
 unfolding eitherOf
 either-small zero a b = lit< tt
 either-small (suc n) a b = omega (arith, either-small n (a / 2) (b / 2), two-pow-succ n)
+
+-- ---- 13 before 21: a word that is not a u32 is refused whatever the divisor
+
+pub div-mod-word : (w : List ℕ) → 2 ^ 32 ≤ st w 0 → divModOf w ≡ refuses (failedU32Conversion (st w 0))
+unfolding divModOf
+div-mod-word w h = rw (le-ltb (st w 0) (2 ^ 32) h)
+
+-- ---- the instructions
 
 module _ (m : Machine) (s : Sound m) (here : m .state .pointer < length (m .code .opcodes)) where
   low : (i : ℕ) → st (top m) i < p

@@ -10,8 +10,8 @@ use Rattle.machine.specs.Choice.{cond}
 use Rattle.machine.specs.Words.{none}
 use Rattle.machine.specs.Instruction.{sizeOf}
 use Rattle.machine.specs.Machine.{Machine, st, top, JumpTop, empty, entry, jumpTop}
-use Rattle.machine.specs.Effect.{Next, onward, to, JumpChange}
-use Rattle.machine.specs.Control.{goes, haltOf, nopOf, skizOf, callOf, returnOf, recurseOf, recurseOrReturnOf, assertOf}
+use Rattle.machine.specs.Effect.{Next, onward, to, JumpChange, goes}
+use Rattle.machine.specs.Control.{haltOf, nopOf, skizOf, callOf, returnOf, recurseOf, recurseOrReturnOf, assertOf}
 use Rattle.machine.specs.Apply.{pointerAfter}
 use Rattle.machine.specs.Sound.{Sound, Honest, HonestJump}
 use Rattle.machine.proofs.Words.{words-getD}

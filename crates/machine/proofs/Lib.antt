@@ -11,6 +11,7 @@ pub mod Bytes
 pub mod Records
 pub mod Logged
 pub mod Preserved
+pub mod Refused
 pub mod PlaceA
 pub mod Seen
 pub mod Acts
@@ -29,7 +30,6 @@ pub mod StepBytes
 pub mod ProvedTable
 pub mod Step
 pub mod Run
-pub mod Refused
 pub mod Drops
 pub mod Cancels
 pub mod Bits

@@ -1,15 +1,14 @@
 -- What place A accepts is a sound machine, and a sound machine is accepted; what open leaves is one. Assumes nothing.
-use mathlib.Core.Path.{_≡_, refl, ap, _∙_}
+use mathlib.Core.Path.{_≡_, refl, sym, ap, _∙_}
 use mathlib.Core.Bool.{Bool, true, false}
 use mathlib.Core.List.{List, _∷_}
 use Prim.Native.Nat.{ℕ, zero, suc, _-_, _/_, _%_, _≤_, _<_, min}
 use native.Mathlib.Omega.{arith}
-use borrow.Author.Tests.{eqb-true, ltb-true, ltb-false}
+use borrow.Author.Tests.{eqb-true, eqb-false, ltb-true, ltb-false}
 use lib.ListN.{length, getD, replicate, length-replicate, List·getD-eq-default}
 use lib.Seq.{getD-take}
 use lib.Dec.{eqb, ltb, lit<, lit≤}
 use Rattle.field.specs.Base.{p}
-use Rattle.machine.specs.Choice.{cond}
 use Rattle.machine.specs.Words.{more, wordsOf}
 use Rattle.machine.specs.Refusal.{plainly}
 use Rattle.machine.specs.Ram.{Cells, cells, cells1, cells2, cells5}
@@ -20,6 +19,7 @@ use Rattle.machine.specs.Open.{openedStack, opened, openOf}
 use Rattle.machine.specs.Sound.{SoundCode, SoundCells, SoundStack, Sound}
 use Rattle.machine.proofs.Choice.{first-zero, first-nil, above-not, above-nil, differ-not, differ-nil}
 use Rattle.machine.proofs.Words.{words-getD, words-all, words-zeros, zeros-getD, word-nil, word-fine, words-at, words-nil, words-whole, words-test, words-used, zeros-nil, zeros-fine}
+use Rattle.machine.proofs.Refused.{open-accepts, open-refuses}
 
 -- ---- cells
 
@@ -43,8 +43,8 @@ cells-sound c h k l =
 pub cells1-fine : (c : Cells) → SoundCells c → cells1 c ≡ 0
 unfolding cells1
 cells1-fine c s =
-    first-zero _ _ (above-not (length (c .addresses)) 16777216 1 (s .few))
-    ∙ first-zero _ _ (above-not (length (c .values)) 16777216 1 (omega (arith, s .few, s .pair)))
+    first-zero _ _ (above-not (length (c .addresses)) longest 1 (s .few))
+    ∙ first-zero _ _ (above-not (length (c .values)) longest 1 (omega (arith, s .few, s .pair)))
     ∙ differ-not (length (c .addresses)) (length (c .values)) 1 (s .pair)
 
 pub cells2-fine : (c : Cells) → SoundCells c → cells2 c ≡ 0
@@ -327,12 +327,17 @@ pub record Opened (m : Machine) : Type 0 where
   pub depth : m .state .depth ≡ 16
 
 open-took : (g : List ℕ) (c : Code) (m : Memory) (n : ℕ) (x : Machine) → openOf g c m n ≡ took x → (openA g c m n ≡ 0) × (opened g c m n ≡ x)
-unfolding openOf
-open-took g c m n x e = go (eqb (openA g c m n) 0) refl e
+open-took g c m n x e = go (eqb (openA g c m n) 0) refl
   where
-    go : (t : Bool) → eqb (openA g c m n) 0 ≡ t → cond t (took (opened g c m n)) (kept (plainly (openA g c m n))) ≡ took x → (openA g c m n ≡ 0) × (opened g c m n ≡ x)
-    go true q h = (eqb-true (openA g c m n) 0 q, cc)
-    go false q h = let z : _≡_ {A = ℕ} 0 1 = cc in absurd (omega arith)
+    go : (t : Bool) → eqb (openA g c m n) 0 ≡ t → (openA g c m n ≡ 0) × (opened g c m n ≡ x)
+    go true q =
+        let z = eqb-true (openA g c m n) 0 q in
+        let k : took (opened g c m n) ≡ took x = sym (open-accepts g c m n z) ∙ e in
+        (z, cc)
+    go false q =
+        let k : kept (plainly (openA g c m n)) ≡ took x = sym (open-refuses g c m n (eqb-false (openA g c m n) 0 q)) ∙ e in
+        let z : _≡_ {A = ℕ} 0 1 = cc in
+        absurd (omega arith)
 
 pub open-sound : (g : List ℕ) (c : Code) (m : Memory) (n : ℕ) (x : Machine) → openOf g c m n ≡ took x → Opened x
 unfolding opened

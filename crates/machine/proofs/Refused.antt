@@ -1,10 +1,9 @@
 -- What place A's number makes of each call: where it is 0 open opens, and elsewhere each call gives that number and changes nothing. Assumes nothing.
-use mathlib.Core.Path.{_≡_, refl}
+use mathlib.Core.Path.{_≡_}
 use mathlib.Core.List.{List}
 use Prim.Native.Nat.{ℕ}
-use borrow.Author.Tests.{eq-eqb, ne-eqb}
+use borrow.Author.Tests.{ne-eqb}
 use lib.ListN.{replicate}
-use lib.Dec.{eqb}
 use Rattle.machine.specs.Refusal.{plainly}
 use Rattle.machine.specs.Machine.{Code, Memory, Machine}
 use Rattle.machine.specs.Effect.{Decision}
@@ -16,7 +15,7 @@ use Rattle.machine.specs.HelperVariables.{helperVariablesOf}
 
 pub open-accepts : (g : List ℕ) (c : Code) (m : Memory) (n : ℕ) → openA g c m n ≡ 0 → openOf g c m n ≡ took (opened g c m n)
 unfolding openOf
-open-accepts g c m n h = rw (eq-eqb (openA g c m n) 0 h)
+open-accepts g c m n h = rw h
 
 pub open-refuses : (g : List ℕ) (c : Code) (m : Memory) (n : ℕ) → (openA g c m n ≡ 0 → ⊥) → openOf g c m n ≡ kept (plainly (openA g c m n))
 unfolding openOf

@@ -1,5 +1,5 @@
--- run: how many steps it takes and how it ends, that a run of a + b is a run of a followed by one of b, and that a sound
--- machine is left. Assumes nothing.
+-- run: how many steps it takes and how it ends, that a refused run keeps the steps before the refused one, that a run of a + b is a run
+-- of a followed by one of b, and that a sound machine is left. Assumes nothing.
 use mathlib.Core.Path.{_≡_, refl, sym, ap, _∙_}
 use mathlib.Core.Bool.{Bool, true, false, true≢false}
 use Prim.Native.Nat.{ℕ, zero, suc, _+_, _≤_, _<_}
@@ -124,6 +124,65 @@ module _ (decide : Machine → Decision) where
 
   pub spent-run : (n : ℕ) (m : Machine) → machineA m ≡ 0 → runBy decide n m .count ≡ n → runBy decide n m .left .state .halted ≡ false → runBy decide n m .ending ≡ spent
   spent-run n m h = is-spent (run-ends n m h)
+
+  -- ---- a refused run
+
+  -- what a step from x refused with w leaves: x, or x with the word that skiz drops
+  pub data Leaves (x : Machine) (w : Refusal) (left : Machine) : Type 0 where
+    all-kept : outcomeBy decide x ≡ kept w → left ≡ x → Leaves x w left
+    word-dropped : outcomeBy decide x ≡ lost w left → Leaves x w left
+
+  -- r, a run from m refused with w: it took as many steps as it counts, to a machine from which the next one is refused, and it leaves
+  -- what that one leaves
+  pub record RefusedAfter (m : Machine) (w : Refusal) (r : Ran) : Type 0 where
+    pub before : Machine
+    pub steps : stepsBy decide (r .count) m ≡ ran (r .count) spent before
+    pub leaves : Leaves before w (r .left)
+
+  no-step : (m : Machine) → m .state .halted ≡ false → stepsBy decide 0 m ≡ ran 0 spent m
+  unfolding stepsBy
+  no-step m h = rw h
+
+  on-step : (c : ℕ) (m : Machine) → m .state .halted ≡ false → stepsBy decide (suc c) m ≡ onStep m (λ x. stepsBy decide c x) (outcomeBy decide m)
+  unfolding stepsBy
+  on-step c m h = rw h
+
+  one-more : (c : ℕ) (m x y : Machine) → m .state .halted ≡ false → outcomeBy decide m ≡ took x → stepsBy decide c x ≡ ran c spent y →
+      stepsBy decide (c + 1) m ≡ ran (c + 1) spent y
+  one-more c m x y h e k =
+      let q : c + 1 ≡ suc c = omega arith in
+      ap (λ (n : ℕ). stepsBy decide n m) q
+      ∙ on-step c m h
+      ∙ ap (onStep m (λ z. stepsBy decide c z)) e
+      ∙ ap (λ (r : Ran). ran (r .count + 1) (r .ending) (r .left)) k
+
+  onStep-refused : (n : ℕ) (m : Machine) (w : Refusal) (o : Outcome) → m .state .halted ≡ false → outcomeBy decide m ≡ o →
+      ((x : Machine) → stepsBy decide n x .ending ≡ refused w → RefusedAfter x w (stepsBy decide n x)) →
+      onStep m (λ x. stepsBy decide n x) o .ending ≡ refused w → RefusedAfter m w (onStep m (λ x. stepsBy decide n x) o)
+  onStep-refused n m w (took x) h e ih q =
+      let k = ih x q in
+      record { before = k .before; steps = one-more (stepsBy decide n x .count) m x (k .before) h e (k .steps); leaves = k .leaves }
+  onStep-refused n m w (kept r) h e ih q = record { before = m; steps = no-step m h; leaves = all-kept (cc) refl }
+  onStep-refused n m w (lost r x) h e ih q = record { before = m; steps = no-step m h; leaves = word-dropped cc }
+
+  steps-refused : (n : ℕ) (m : Machine) (w : Refusal) → stepsBy decide n m .ending ≡ refused w → RefusedAfter m w (stepsBy decide n m)
+  unfolding stepsBy
+  steps-refused zero m w q = go (m .state .halted) q
+    where
+      go : (t : Bool) → cond t halted spent ≡ refused w → RefusedAfter m w (ran 0 (cond t halted spent) m)
+      go true k = let z : _≡_ {A = ℕ} 0 1 = cc in absurd (omega arith)
+      go false k = let z : _≡_ {A = ℕ} 0 1 = cc in absurd (omega arith)
+  steps-refused (suc n) m w q = go (m .state .halted) refl q (λ x. steps-refused n x w)
+    where
+      go : (t : Bool) → m .state .halted ≡ t → cond t (ran 0 halted m) (onStep m (λ x. stepsBy decide n x) (outcomeBy decide m)) .ending ≡ refused w →
+          ((x : Machine) → stepsBy decide n x .ending ≡ refused w → RefusedAfter x w (stepsBy decide n x)) →
+          RefusedAfter m w (cond t (ran 0 halted m) (onStep m (λ x. stepsBy decide n x) (outcomeBy decide m)))
+      go true h k ih = let z : _≡_ {A = ℕ} 0 1 = cc in absurd (omega arith)
+      go false h k ih = onStep-refused n m w (outcomeBy decide m) h refl ih k
+
+  -- 'run (steps before kept)', of a machine that place A accepts; of any other, nothing is changed (run-refuses)
+  pub run-refused-after : (n : ℕ) (m : Machine) (w : Refusal) → machineA m ≡ 0 → runBy decide n m .ending ≡ refused w → RefusedAfter m w (runBy decide n m)
+  run-refused-after n m w h = rw (run-is n m h) (steps-refused n m w)
 
   -- ---- a run of a + b
 

@@ -1,17 +1,17 @@
 -- Laws of lists of words. Assumes nothing.
-use mathlib.Core.Path.{_≡_, refl, _∙_}
+use mathlib.Core.Path.{_≡_, refl, sym, _∙_}
 use mathlib.Core.Bool.{Bool, true, false}
 use mathlib.Core.List.{List, [], _∷_, _++_}
 use Prim.Native.Nat.{ℕ, zero, suc, _+_, _-_, _≤_, _<_}
 use native.Mathlib.Omega.{arith}
-use borrow.Author.Tests.{eqb-true, eqb-false}
+use borrow.Author.Tests.{eqb-true, eqb-false, lt-ltb, le-ltb, ltb-true, ltb-false}
 use lib.ListN.{length, take, drop, getD, set, replicate}
 use lib.Seq.{take-suc, take-length, getD-take}
 use lib.Dec.{eqb, ltb, lit<}
 use Rattle.field.specs.Base.{p}
 use Rattle.machine.specs.Choice.{cond, firstOf, aboveOf}
 use Rattle.machine.specs.Words.{Words, none, more, wordOf2, wordsOf, zerosFrom}
-use Rattle.machine.proofs.Choice.{first-zero, first-nil, above-not, above-nil}
+use Rattle.machine.proofs.Choice.{first-zero, first-nil, above-not, above-is, above-nil}
 
 pub words-getD : {s : List ℕ} (i : ℕ) → Words s → getD s i 0 < p
 words-getD i none = lit< tt
@@ -54,13 +54,32 @@ zeros-getD (suc n) (suc i) = zeros-getD n i
 
 -- ---- the tests of place A
 
-pub word-nil : (x : ℕ) → wordOf2 x ≡ 0 → x < p
-unfolding wordOf2
-word-nil x h = omega (arith, above-nil x 18446744069414584320 2 (omega arith) h)
-
 pub word-fine : (x : ℕ) → x < p → wordOf2 x ≡ 0
 unfolding wordOf2
-word-fine x h = above-not x 18446744069414584320 2 (omega arith)
+word-fine x h = rw (lt-ltb x p h)
+
+pub word-not : (x : ℕ) → p ≤ x → wordOf2 x ≡ 2
+unfolding wordOf2
+word-not x h = rw (le-ltb x p h)
+
+pub word-nil : (x : ℕ) → wordOf2 x ≡ 0 → x < p
+word-nil x h = go (ltb x p) refl
+  where
+    go : (t : Bool) → ltb x p ≡ t → x < p
+    go true e = ltb-true x p e
+    go false e = absurd (omega (arith, h, word-not x (ltb-false x p e)))
+
+-- the test as the code makes it: above p - 1
+pub word-above : (x : ℕ) → aboveOf x 18446744069414584320 2 ≡ wordOf2 x
+word-above x = go (ltb x p) refl
+  where
+    go : (t : Bool) → ltb x p ≡ t → aboveOf x 18446744069414584320 2 ≡ wordOf2 x
+    go true e =
+        let l : x < p = ltb-true x p e in
+        above-not x 18446744069414584320 2 (omega arith) ∙ sym (word-fine x l)
+    go false e =
+        let l : p ≤ x = ltb-false x p e in
+        above-is x 18446744069414584320 2 (omega arith) ∙ sym (word-not x l)
 
 pub words-at : (s : List ℕ) (n i : ℕ) → i < n → wordsOf s n ≡ 0 → getD s i 0 < p
 unfolding wordsOf

@@ -48,7 +48,7 @@ destinationsAfter s n stays = s
 destinationsAfter s n (pushes o d) = set s n d
 destinationsAfter s n pops = set s (n - 1) 0
 
--- ---- RAM: the calls, in order. This is word for word what replay does
+-- ---- RAM: the calls, in order. The definition replayOf does with their records word for word the same
 
 unfoldable pub touched : Cells → List Call → Cells
 touched c [] = c

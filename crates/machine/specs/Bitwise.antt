@@ -23,8 +23,7 @@ unfoldable pub xorOf : List ℕ → Decision
 xorOf w = u32Only (st w 0) (u32Only (st w 1) (acts (recording (u32 14 (st w 0) (st w 1) ∷ []) 2 (eitherOf 32 (st w 0) (st w 1) ∷ []))))
 
 unfoldable pub log2FloorOf : List ℕ → Decision
-log2FloorOf w =
-    u32Only (st w 0) (unless (eqb (st w 0) 0) logarithmOfZero (acts (recording (u32 12 (st w 0) 0 ∷ []) 1 (highestOf 31 (st w 0) ∷ []))))
+log2FloorOf w = u32Only (st w 0) (unless (eqb (st w 0) 0) logarithmOfZero (acts (recording (u32 12 (st w 0) 0 ∷ []) 1 (highestOf 31 (st w 0) ∷ []))))
 
 -- _ e b becomes _ b^e; the base may be any word
 unfoldable pub powOf : List ℕ → Decision

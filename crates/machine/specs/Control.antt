@@ -1,6 +1,6 @@
 -- The instructions that say what comes next.
 use Prim.Native.Nat.{ℕ, _+_}
-use mathlib.Core.Bool.{Bool, true, false}
+use mathlib.Core.Bool.{true}
 use mathlib.Core.List.{List, []}
 use lib.ListN.{length, getD}
 use lib.Dec.{eqb, ltb}
@@ -8,12 +8,7 @@ use Rattle.machine.specs.Choice.{cond}
 use Rattle.machine.specs.Refusal.{instructionPointerOverflow, jumpStackIsEmpty, assertionFailed}
 use Rattle.machine.specs.Instruction.{sizeOf}
 use Rattle.machine.specs.Machine.{st, JumpTop, empty, entry}
-use Rattle.machine.specs.Effect.{Effect, Decision, acts, refuses, drops, Next, onward, to, JumpChange, stays, pushes, pops, keeps, puts, unless}
-
--- pops so many words, goes there, with this change of the jump stack
-abbrev pub goes : ℕ → Next → JumpChange → Effect
-goes n next jump =
-    record { pops = n; words = []; next = next; halts = false; jump = jump; publics = 0; secrets = 0; digests = 0; output = []; sponge = keeps; calls = [] }
+use Rattle.machine.specs.Effect.{Decision, acts, refuses, drops, onward, to, stays, pushes, pops, keeps, puts, goes}
 
 unfoldable pub haltOf : Decision
 haltOf =

@@ -50,15 +50,39 @@ pub record Effect : Type 0 where
   pub sponge : SpongeChange
   pub calls : List Call
 
--- takes so many words off and puts these on; all else as it was, and on to the next instruction
-abbrev pub puts : ℕ → List ℕ → Effect
-puts n ws =
-    record { pops = n; words = ws; next = onward; halts = false; jump = stays; publics = 0; secrets = 0; digests = 0; output = []; sponge = keeps; calls = [] }
+-- ---- effects that take n words off, put these on and go on to the next instruction; what they do not name stays
 
--- the same with calls
+-- takes so many public words, secret words and secret digests, and has these calls
+abbrev pub drawing : ℕ → ℕ → ℕ → List Call → ℕ → List ℕ → Effect
+drawing p s d cs n ws =
+    record { pops = n; words = ws; next = onward; halts = false; jump = stays; publics = p; secrets = s; digests = d; output = []; sponge = keeps; calls = cs }
+
+-- has these calls
 abbrev pub recording : List Call → ℕ → List ℕ → Effect
-recording cs n ws =
-    record { pops = n; words = ws; next = onward; halts = false; jump = stays; publics = 0; secrets = 0; digests = 0; output = []; sponge = keeps; calls = cs }
+recording cs n ws = drawing 0 0 0 cs n ws
+
+-- has no call
+abbrev pub puts : ℕ → List ℕ → Effect
+puts n ws = recording [] n ws
+
+-- changes the sponge, and has these calls
+abbrev pub sponging : SpongeChange → List Call → ℕ → List ℕ → Effect
+sponging s cs n ws =
+    record { pops = n; words = ws; next = onward; halts = false; jump = stays; publics = 0; secrets = 0; digests = 0; output = []; sponge = s; calls = cs }
+
+-- ---- effects that take n words off and put none on; what they do not name stays
+
+-- puts these words out, and goes on
+abbrev pub writing : ℕ → List ℕ → Effect
+writing n out =
+    record { pops = n; words = []; next = onward; halts = false; jump = stays; publics = 0; secrets = 0; digests = 0; output = out; sponge = keeps; calls = [] }
+
+-- goes there, with this change of the jump stack
+abbrev pub goes : ℕ → Next → JumpChange → Effect
+goes n next jump =
+    record { pops = n; words = []; next = next; halts = false; jump = jump; publics = 0; secrets = 0; digests = 0; output = []; sponge = keeps; calls = [] }
+
+-- ---- what comes of an instruction
 
 pub data Decision : Type 0 where
   acts : Effect → Decision

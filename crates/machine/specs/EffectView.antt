@@ -14,10 +14,10 @@ use Rattle.machine.specs.Refusal.{refusalOf}
 use Rattle.machine.specs.Machine.{JumpTop, empty, entry}
 use Rattle.machine.specs.Effect.{Call, u32, ramRead, ramWrite, Next, onward, to, JumpChange, stays, pushes, pops, keeps, Effect, Decision, acts, refuses, drops}
 
--- what changes nothing but pointer and clock
 abbrev pub noU32 : U32Call
 noU32 = record { opcode = 0; left = 0; right = 0 }
 
+-- what changes nothing but pointer and clock
 abbrev pub noArrays : Arrays
 noArrays =
     record {
@@ -94,11 +94,6 @@ verdictOf (Drops r) e = drops (refusalOf r)
 unfoldable pub decisionOf : Decided → Decision
 unfolding effectOf
 decisionOf d = verdictOf (d .verdict) (effectOf (d .effect))
-
--- takes n words off and puts these out; all else as it was
-abbrev pub writing : ℕ → List ℕ → Effect
-writing n ws =
-    record { pops = n; words = []; next = onward; halts = false; jump = stays; publics = 0; secrets = 0; digests = 0; output = ws; sponge = keeps; calls = [] }
 
 -- the top of a jump stack with so many entries, the last of them this
 abbrev pub jumpTopOf : ℕ → ℕ → ℕ → JumpTop

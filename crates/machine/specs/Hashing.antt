@@ -1,6 +1,6 @@
 -- The instructions that hash with Tip5, and assert_vector.
 use Prim.Native.Nat.{ℕ, zero, suc, _+_}
-use mathlib.Core.Bool.{true, false}
+use mathlib.Core.Bool.{true}
 use mathlib.Core.List.{List, [], _∷_, _++_}
 use lib.ListN.{getD, drop, replicate}
 use lib.Dec.{eqb}
@@ -11,7 +11,7 @@ use Rattle.machine.specs.Choice.{cond}
 use Rattle.machine.specs.Refusal.{spongeNotInitialized, vectorAssertionFailed}
 use Rattle.machine.specs.Ram.{Cells}
 use Rattle.machine.specs.Machine.{st}
-use Rattle.machine.specs.Effect.{Call, reset, tip5, Effect, Decision, acts, refuses, SpongeChange, keeps, becomes, onward, stays, recording, puts}
+use Rattle.machine.specs.Effect.{Call, reset, tip5, Effect, Decision, acts, refuses, SpongeChange, becomes, recording, puts, sponging}
 use Rattle.machine.specs.Memory.{wordsUp, readsUp}
 
 -- the last of a trace's six states
@@ -44,13 +44,8 @@ hashOf w = acts (hashed (traceOf (fixedLength (fromTop w 0 10))))
 abbrev pub sponged : List ℕ → SpongeChange
 sponged trace = becomes (record { words = lastState trace; set = true })
 
--- takes n words off, puts these on, with these calls, and the sponge becomes this
-abbrev pub sponging : ℕ → List ℕ → List Call → SpongeChange → Effect
-sponging n ws cs s =
-    record { pops = n; words = ws; next = onward; halts = false; jump = stays; publics = 0; secrets = 0; digests = 0; output = []; sponge = s; calls = cs }
-
 unfoldable pub spongeInitOf : Decision
-spongeInitOf = acts (sponging 0 [] (reset ∷ []) (becomes (record { words = replicate 16 0; set = true })))
+spongeInitOf = acts (sponging (becomes (record { words = replicate 16 0; set = true })) (reset ∷ []) 0 [])
 
 -- goes on where the sponge is set
 abbrev pub spongeOnly : Sponge → Decision → Decision
@@ -61,21 +56,21 @@ abbrev pub overwritten : Sponge → List ℕ → List ℕ
 overwritten s ten = ten ++ drop 10 (s .words)
 
 unfoldable pub absorbed : List ℕ → Effect
-absorbed trace = sponging 10 [] (tip5 34 trace ∷ []) (sponged trace)
+absorbed trace = sponging (sponged trace) (tip5 34 trace ∷ []) 10 []
 
 unfoldable pub spongeAbsorbOf : Sponge → List ℕ → Decision
 spongeAbsorbOf s w = spongeOnly s (acts (absorbed (traceOf (overwritten s (fromTop w 0 10)))))
 
 -- _ d c b a m becomes _ w3 w2 w1 w0 (m + 10)
 unfoldable pub absorbedMem : List ℕ → List Call → ℕ → List ℕ → Effect
-absorbedMem ten reads m trace = sponging 5 (reversed ten 4 ++ (addP m 10 ∷ [])) (reads ++ (tip5 34 trace ∷ [])) (sponged trace)
+absorbedMem ten reads m trace = sponging (sponged trace) (reads ++ (tip5 34 trace ∷ [])) 5 (reversed ten 4 ++ (addP m 10 ∷ []))
 
 unfoldable pub spongeAbsorbMemOf : Sponge → Cells → List ℕ → Decision
 spongeAbsorbMemOf s c w =
     spongeOnly s (acts (absorbedMem (wordsUp c (st w 0) 10) (readsUp c (st w 0) 10) (st w 0) (traceOf (overwritten s (wordsUp c (st w 0) 10)))))
 
 unfoldable pub squeezed : Sponge → List ℕ → Effect
-squeezed s trace = sponging 0 (reversed (s .words) 10) (tip5 56 trace ∷ []) (sponged trace)
+squeezed s trace = sponging (sponged trace) (tip5 56 trace ∷ []) 0 (reversed (s .words) 10)
 
 unfoldable pub spongeSqueezeOf : Sponge → Decision
 spongeSqueezeOf s = spongeOnly s (acts (squeezed s (traceOf (s .words))))

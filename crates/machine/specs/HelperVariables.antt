@@ -36,7 +36,7 @@ splitHelper x = cond (eqb (x % 2 ^ 32) 0) 0 (inverseP (subP (x / 2 ^ 32) 0xffff_
 unfoldable pub nextDigest : List ℕ → List ℕ
 nextDigest left = cond (ltb (length left) 5) (replicate 5 0) (take 5 left)
 
--- of the top sixteen words w, the cells c and an argument n
+-- of an instruction with the argument n, before the machine m takes its step
 unfoldable pub helpersOf : Instruction → ℕ → Machine → List ℕ
 helpersOf I.pop n m = argumentBits n
 helpersOf I.divine n m = argumentBits n

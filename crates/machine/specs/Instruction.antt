@@ -81,12 +81,13 @@ pub data Change : Type 0 where
   grows-by-argument : Change
   shrinks-by-argument : Change
 
--- the calls of an instruction, apart from those of the op stack
+-- an instruction: its opcode, the argument that it takes, its depth change and its calls
 pub record Row : Type 0 where
   pub opcode : ℕ
   pub instruction : Instruction
   pub argument : Argument
   pub change : Change
+  -- how many calls it makes, apart from those of the op stack
   pub resets : ℕ
   pub traces : ℕ
   pub u32s : ℕ

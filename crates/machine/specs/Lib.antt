@@ -2,6 +2,7 @@
 pub mod Choice
 pub mod Refusal
 pub mod Words
+pub mod Lengths
 pub mod Ram
 pub mod RamView
 pub mod Instruction

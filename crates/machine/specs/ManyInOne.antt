@@ -1,6 +1,5 @@
 -- Merkle steps and dot-product steps.
 use Prim.Native.Nat.{ℕ, _+_, _/_, _%_}
-use mathlib.Core.Bool.{false}
 use mathlib.Core.List.{List, [], _∷_, _++_}
 use lib.ListN.{length, getD, take}
 use lib.Dec.{eqb, ltb}
@@ -12,7 +11,7 @@ use Rattle.machine.specs.Choice.{cond}
 use Rattle.machine.specs.Refusal.{emptySecretDigestInput}
 use Rattle.machine.specs.Ram.{Cells, held}
 use Rattle.machine.specs.Machine.{st}
-use Rattle.machine.specs.Effect.{Call, tip5, u32, ramRead, Effect, Decision, acts, unless, u32Only, onward, stays, keeps, recording}
+use Rattle.machine.specs.Effect.{Call, tip5, u32, ramRead, Effect, Decision, acts, unless, u32Only, drawing, recording}
 use Rattle.machine.specs.Memory.{wordsUp, readsUp}
 use Rattle.machine.specs.Hashing.{lastState, fromTop, reversed, fixedLength}
 use Rattle.machine.specs.Arithmetic.{xst, wordsX}
@@ -32,8 +31,7 @@ abbrev pub merkleCalls : List ℕ → List ℕ → List Call
 merkleCalls w trace = tip5 18 trace ∷ u32 4 (st w 5) (st w 5 / 2) ∷ []
 
 unfoldable pub merkleStepped : List ℕ → List ℕ → Effect
-merkleStepped w trace =
-    record { pops = 6; words = parent w trace; next = onward; halts = false; jump = stays; publics = 0; secrets = 0; digests = 1; output = []; sponge = keeps; calls = merkleCalls w trace }
+merkleStepped w trace = drawing 0 0 1 (merkleCalls w trace) 6 (parent w trace)
 
 -- left: the words of the secret digests not yet taken
 unfoldable pub merkleStepOf : List ℕ → List ℕ → Decision

@@ -4,16 +4,10 @@ use mathlib.Core.List.{List, [], _∷_}
 use lib.ListN.{length, getD}
 use Rattle.machine.specs.Choice.{cond, firstOf, aboveOf, differOf}
 use Rattle.machine.specs.Words.{wordOf2, wordsOf, zerosFrom}
+pub use Rattle.machine.specs.Lengths.{longest, tooLong}
 use Rattle.machine.specs.Ram.{Cells, cells, cells1, cells2, cells5}
 use Rattle.machine.specs.Instruction.{Decoded, known, unknown, decode, argumentFault}
 use Rattle.machine.specs.Machine.{Code, Memory, Machine, ram}
-
--- 'No lent slice has more than 16,777,216 elements'
-abbrev pub longest : ℕ
-longest = 16777216
-
-abbrev pub tooLong : List ℕ → ℕ
-tooLong s = aboveOf (length s) longest 1
 
 -- ---- 1: lengths
 

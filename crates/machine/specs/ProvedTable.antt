@@ -1,5 +1,6 @@
 -- Document 01's proved table: what is asked and what is expected. That each line is answered so is one theorem (proofs/ProvedTable.antt).
--- A line asks a step of a machine with one slot, by its opcode and argument, at a depth, with words on top, ST 0 first.
+-- A line asks a step of a machine with one slot, by its opcode and argument, at a depth, with words on top, ST 0 first. The clock is
+-- 7, so that a step right at clock 0 alone is excluded.
 use Prim.Native.Nat.{ℕ, _-_, _^_}
 use mathlib.Core.Bool.{false}
 use mathlib.Core.List.{List, [], _∷_, _++_}
@@ -32,7 +33,7 @@ unfoldable pub asked : ℕ → ℕ → ℕ → List ℕ → Machine
 asked opcode argument depth words =
     machine
     (record {
-      clock = 0;
+      clock = 7;
       pointer = 0;
       depth = depth;
       jumps = 0;

@@ -8,6 +8,7 @@ use lib.ListN.{length, getD, set}
 use lib.Dec.{eqb, ltb}
 use Rattle.machine.specs.Choice.{cond, firstOf, aboveOf, differOf}
 use Rattle.machine.specs.Words.{wordsOf}
+use Rattle.machine.specs.Lengths.{tooLong}
 
 pub record Cells : Type 0 where
   pub count : ℕ
@@ -67,10 +68,7 @@ pub record Alike (c d : Cells) : Type 0 where
 -- ---- what place A asks of cells
 
 unfoldable pub cells1 : Cells → ℕ
-cells1 c =
-    firstOf (aboveOf (length (c .addresses)) 16777216 1)
-    (firstOf (aboveOf (length (c .values)) 16777216 1)
-    (differOf (length (c .addresses)) (length (c .values)) 1))
+cells1 c = firstOf (tooLong (c .addresses)) (firstOf (tooLong (c .values)) (differOf (length (c .addresses)) (length (c .values)) 1))
 
 -- used: the places below the count that the slice has
 unfoldable pub cells2 : Cells → ℕ

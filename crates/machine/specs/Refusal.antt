@@ -72,8 +72,8 @@ spongeNotInitialized = plainly 23
 unfoldable pub refusalOf : InstructionError → Refusal
 refusalOf E.BadShape = plainly 1
 refusalOf E.NotAWord = plainly 2
-refusalOf E.UnknownOpcode = plainly 3
-refusalOf E.BadArgument = plainly 4
+refusalOf E.InvalidOpcode = plainly 3
+refusalOf E.IllegalArgument = plainly 4
 refusalOf E.BadState = plainly 5
 refusalOf E.MachineHalted = machineHalted
 refusalOf E.InstructionPointerOverflow = instructionPointerOverflow

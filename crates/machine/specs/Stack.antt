@@ -5,8 +5,7 @@ use lib.ListN.{length, getD, take, drop, set}
 use lib.Dec.{ltb}
 use Rattle.machine.specs.Refusal.{emptySecretInput}
 use Rattle.machine.specs.Machine.{st}
-use Rattle.machine.specs.Effect.{Effect, Decision, acts, puts, unless, onward, stays, keeps}
-use mathlib.Core.Bool.{false}
+use Rattle.machine.specs.Effect.{Effect, Decision, acts, drawing, puts, unless}
 
 unfoldable pub pushOf : ℕ → Decision
 pushOf a = acts (puts 0 (a ∷ []))
@@ -16,8 +15,7 @@ popOf n = acts (puts n [])
 
 -- takes n secret words and puts them on, the first taken lowest
 abbrev pub divined : ℕ → List ℕ → Effect
-divined n left =
-    record { pops = 0; words = take n left; next = onward; halts = false; jump = stays; publics = 0; secrets = n; digests = 0; output = []; sponge = keeps; calls = [] }
+divined n left = drawing 0 n 0 [] 0 (take n left)
 
 unfoldable pub divineOf : ℕ → List ℕ → Decision
 divineOf n left = unless (ltb (length left) n) (emptySecretInput (length left)) (acts (divined n left))

@@ -2,8 +2,9 @@
 use Prim.Native.Nat.{ℕ, zero, suc, _+_, _<_}
 use mathlib.Core.List.{List, [], _∷_}
 use lib.ListN.{getD}
+use lib.Dec.{ltb}
 pub use Rattle.field.specs.Base.{p}
-use Rattle.machine.specs.Choice.{firstOf, aboveOf}
+use Rattle.machine.specs.Choice.{cond, firstOf, aboveOf}
 
 -- a list of words: each element is below p
 pub data Words : List ℕ → Type 0 where
@@ -12,7 +13,7 @@ pub data Words : List ℕ → Type 0 where
 
 -- 2 where x is at or above p
 unfoldable pub wordOf2 : ℕ → ℕ
-wordOf2 x = aboveOf x 0xffff_ffff_0000_0000 2
+wordOf2 x = cond (ltb x p) 0 2
 
 -- 2 where one of the first n elements is at or above p
 unfoldable pub wordsOf : List ℕ → ℕ → ℕ

@@ -3,12 +3,11 @@ ghost use mathlib.Core.Path.{_≡_};
 ghost use mathlib.Core.List.{[] as Nil, _∷_, _++_};
 ghost use Prim.Native.Nat.{_+_, _≤_};
 ghost use lib.ListN.{length, take, drop};
-ghost use Rattle.machine.specs.Effect.{acts, refuses, drops, puts as putting, recording, to, stays, pushes, pops as popped};
-ghost use Rattle.machine.specs.EffectView.{noArrays, decisionOf, effectOf, u32sOf, readsFrom, writesFrom, writing};
+ghost use Rattle.machine.specs.Effect.{acts, refuses, drops, puts as putting, recording, writing, goes, to, stays, pushes, pops as popped};
+ghost use Rattle.machine.specs.EffectView.{noArrays, decisionOf, effectOf, u32sOf, readsFrom, writesFrom};
 ghost use Rattle.machine.specs.Refusal.{refusalOf};
 ghost use Rattle.machine.specs.Stack.{divined};
 ghost use Rattle.machine.specs.InputOutput.{taken};
-ghost use Rattle.machine.specs.Control.{goes};
 use crate::refusal::InstructionError;
 use tip5::words::copy;
 

@@ -8,10 +8,9 @@ ghost use Rattle.field.specs.Extension.{WordsX};
 ghost use Rattle.machine.specs.Words.{Words};
 ghost use Rattle.machine.specs.Ram.{cells};
 ghost use Rattle.machine.specs.Machine.{st};
-ghost use Rattle.machine.specs.Effect.{acts, recording, ramRead, u32 as called};
+ghost use Rattle.machine.specs.Effect.{acts, drawing, recording, ramRead, u32 as called};
 ghost use Rattle.machine.specs.EffectView.{decisionOf, readsFrom};
 ghost use Rattle.machine.specs.HashedView.{hashedOf};
-ghost use Rattle.machine.specs.HashedParts.{taking};
 ghost use Rattle.machine.specs.MemoryView.{Cells10};
 ghost use Rattle.machine.specs.Hashing.{fixedLength, lastState, reversed};
 ghost use Rattle.machine.specs.Arithmetic.{xst, wordsX};
@@ -89,7 +88,7 @@ fn put_step(
     addresses: [u64; 10],
     values: [u64; 10],
 ) -> Decided
-    ensures { λ r. ⌜ decisionOf r ≡ acts (taking digests (called 4 index (index / 2) ∷ readsFrom addresses values 0 reads) pops (take count words)) ⌝ }
+    ensures { λ r. ⌜ decisionOf r ≡ acts (drawing 0 0 digests (called 4 index (index / 2) ∷ readsFrom addresses values 0 reads) pops (take count words)) ⌝ }
 {
     let call = U32Call {
         opcode: 4,

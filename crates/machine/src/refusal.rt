@@ -3,8 +3,8 @@ pub enum InstructionError {
     // Place A.
     BadShape,
     NotAWord,
-    UnknownOpcode,
-    BadArgument,
+    InvalidOpcode,
+    IllegalArgument,
     BadState,
     // Place B.
     MachineHalted,

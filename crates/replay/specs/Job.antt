@@ -33,7 +33,7 @@ onTook m k (kept r) = called [] m false
 onTook m k (lost r x) = called [] x true
 
 module _ (decide : Machine → Decision) where
-  -- the steps that run takes, one by one
+  -- the steps that run takes, one by one: after k of them stands what a run of k leaves (run-passes in proofs/Job.antt)
   unfoldable pub passed : ℕ → Machine → Called
   passed zero m = called [] m false
   passed (suc n) m = cond (m .state .halted) (called [] m false) (onTook m (λ x. passed n x) (outcomeBy decide m))
@@ -48,7 +48,7 @@ module _ (decide : Machine → Decision) where
   jobOf m [] = []
   jobOf m (a ∷ more) = askOf m a .machines ++ cond (askOf m a .over) [] (jobOf (askOf m a .left) more)
 
-  -- the records of the steps from m through the machines, as step writes them
+  -- the records of the steps from m through the machines, as step writes them, also for a step within run (job-step in proofs/Job.antt)
   unfoldable pub logFrom : Machine → List Machine → List Record
   logFrom m [] = []
   logFrom m (x ∷ xs) = recordsIn m (decide m) ++ logFrom x xs

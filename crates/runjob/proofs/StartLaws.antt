@@ -1,8 +1,9 @@
 -- What starting a job gives, by the contracts of reading and opening it. Assumes nothing.
 use mathlib.Core.Path.{_≡_, refl, sym, ap, subst, _∙_}
 use mathlib.Core.Bool.{Bool, true, false}
-use mathlib.Core.List.{List}
+use mathlib.Core.List.{List, _++_, append-assoc}
 use Prim.Native.Nat.{ℕ, _+_, _≤_}
+use native.Mathlib.Nat.{zero-add}
 use native.Mathlib.Omega.{arith}
 use borrow.Author.Tests.{eqb-true, eqb-false, eq-eqb, ne-eqb}
 use lib.ListN.{length, take, drop, replicate, length-append, length-replicate}
@@ -15,6 +16,8 @@ use Rattle.machine.specs.Apply.{Outcome, took, kept, lost}
 use Rattle.machine.specs.Logged.{logged}
 use Rattle.machine.specs.PlaceA.{openA}
 use Rattle.machine.specs.Open.{opened, openOf}
+use Rattle.machine.specs.Decide.{decideOf}
+use Rattle.machine.specs.Step.{stepsBy}
 use Rattle.machine.specs.Sound.{Sound}
 use Rattle.machine.proofs.Choice.{first-zero, first-left, first-nil}
 use Rattle.machine.proofs.Logged.{logged-front}
@@ -27,8 +30,10 @@ use Rattle.vm.specs.OpenView.{noState, Opens}
 use Rattle.job.specs.declared.job_file.JobFile.{JobFile}
 use Rattle.job.specs.JobFile.{Job, Filled, jobOf}
 use Rattle.job.specs.JobFileView.{Lent, Says}
-use Rattle.job.specs.Printed.{runLines, notOpened, codeOf, memoryOf, onOpened, jobLines}
+use Rattle.job.specs.LogLines.{linesOf}
+use Rattle.job.specs.Printed.{outLines, endLine, outputOf, recordsBy, runLines, notOpened, codeOf, memoryOf, onOpened, jobLines}
 use Rattle.runjob.specs.Refusals.{numberIn}
+use Rattle.runjob.specs.Pieces.{endingFrom, linesFrom}
 use Rattle.runjob.specs.PieceView.{Room}
 use Rattle.runjob.specs.StartView.{Blank, Starts}
 
@@ -111,6 +116,16 @@ refused-lines budget (kept r) h = refl
 refused-lines budget (lost r x) h = refl
 
 -- ---- the job's lines
+
+-- an opened job prints what is to be printed where no step was taken
+pub run-lines : (budget : ℕ) (m : Machine) → runLines budget m ≡ linesFrom 0 budget m
+unfolding runLines linesFrom endingFrom
+run-lines budget m =
+    let r = stepsBy decideOf budget m in
+    let records = linesOf (recordsBy budget m) in
+    let outs = outLines (outputOf (r .left)) in
+    ap (λ (n : ℕ). records ++ outs ++ endLine (r .ending) n (r .left .state .pointer) (r .left .state .depth)) (sym (zero-add (r .count)))
+    ∙ append-assoc records outs (endLine (r .ending) (0 + r .count) (r .left .state .pointer) (r .left .state .depth))
 
 good-lines : (j : Job) → j .number ≡ 0 → jobLines j ≡ onOpened (j .budget) (openOf (j .digest) (codeOf j) (memoryOf j) (length (j .addresses)))
 unfolding jobLines
@@ -200,6 +215,6 @@ module _ (file : List ℕ) (j : JobFile) (l l2 : Lent) (s : Says (jobOf file) j 
               inside = record { opcodes = filled-inside (s .opcodes); arguments = filled-inside (s .arguments); public = filled-inside (s .public); secret = filled-inside (s .secret); digests = filled-inside (s .digests) };
               output = len;
               sound = λ z. both z .1;
-              opened = λ z. both z .0 ∙ ap (λ (b : ℕ). runLines b (machine (r .state) Taken m2)) (sym (s .budget));
+              opened = λ z. both z .0 ∙ ap (λ (b : ℕ). runLines b (machine (r .state) Taken m2)) (sym (s .budget)) ∙ run-lines (j .budget) (machine (r .state) Taken m2);
               refused = λ h. not-opened (jobOf file) n number-of h;
             }

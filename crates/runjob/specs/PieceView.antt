@@ -1,6 +1,6 @@
 -- What a piece relies on, and what it writes.
 use mathlib.Core.Path.{_≡_}
-use mathlib.Core.Bool.{true}
+use mathlib.Core.Bool.{true, false}
 use mathlib.Core.List.{List, [], _++_}
 use Prim.Native.Nat.{ℕ, _+_, _-_, _*_, _<_, _≤_}
 use lib.ListN.{length, take}
@@ -35,3 +35,10 @@ pub record Writes (done budget : ℕ) (m : Machine) (log text : List ℕ) (r : W
   pub outputs : length (n .output) ≡ length (m .memory .output)
   pub logs : length log2 ≡ length log
   pub texts : length text2 ≡ length text
+
+-- what pieces write one behind the other, each from what the one before it left, up to the first with no more to come
+pub data Prints : ℕ → ℕ → Machine → List ℕ → Type 0 where
+  last : {done budget : ℕ} {m : Machine} {log text : List ℕ} {r : Written} {n : Memory} {log2 text2 : List ℕ} → Writes done budget m log text r n log2 text2 → r .more ≡ false →
+      Prints done budget m (take (r .bytes) text2)
+  next : {done budget : ℕ} {m : Machine} {log text : List ℕ} {r : Written} {n : Memory} {log2 text2 rest : List ℕ} → Writes done budget m log text r n log2 text2 → r .more ≡ true →
+      Prints (done + r .count) (budget - r .count) (machine (r .state) (m .code) n) rest → Prints done budget m (take (r .bytes) text2 ++ rest)

@@ -17,7 +17,7 @@ use Rattle.job.specs.Printed.{outLines, endLine, outputOf, recordsBy}
 unfoldable pub endingFrom : ℕ → Ran → List ℕ
 endingFrom done r = outLines (outputOf (r .left)) ++ endLine (r .ending) (done + r .count) (r .left .state .pointer) (r .left .state .depth)
 
--- what is still to be printed at a machine m, where `done` steps were taken and `budget` are left: job's runLines, but for the count
+-- what is still to be printed at a machine m, where `done` steps were taken and `budget` are left: job's runLines, where none were taken
 unfoldable pub linesFrom : ℕ → ℕ → Machine → List ℕ
 linesFrom done budget m = linesOf (recordsBy budget m) ++ endingFrom done (stepsBy decideOf budget m)
 

@@ -1,6 +1,6 @@
 // runjob: reads a job file from standard input, runs the job and writes what document 01's printed job says (printedOf, in job's
 // specs/Printed.antt). Reading and writing have no contract that says which bytes: what is written is what `start` and `piece` say, in
-// their order.
+// their order, and that is printedOf's text (proofs/Printing.antt).
 mod piece;
 mod refusals;
 mod start;

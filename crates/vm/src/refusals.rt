@@ -28,8 +28,8 @@ pub fn numbered(error: InstructionError) -> Refusal
     match error {
         InstructionError::BadShape => carry(1, 0, 0, 0),
         InstructionError::NotAWord => carry(2, 0, 0, 0),
-        InstructionError::UnknownOpcode => carry(3, 0, 0, 0),
-        InstructionError::BadArgument => carry(4, 0, 0, 0),
+        InstructionError::InvalidOpcode => carry(3, 0, 0, 0),
+        InstructionError::IllegalArgument => carry(4, 0, 0, 0),
         InstructionError::BadState => carry(5, 0, 0, 0),
         InstructionError::MachineHalted => carry(10, 0, 0, 0),
         InstructionError::InstructionPointerOverflow => carry(11, 0, 0, 0),

@@ -2,9 +2,9 @@
 use std::error::Error;
 use std::fmt::{Display, Formatter, Result};
 
-/// Why a call was turned down. The names of 10 to 23 are those of the original Rust's `InstructionError` and of the `OpStackError`
-/// within it (12, there `TooShallow`, and 13); the others are document 01's. `Display` says what was wanted and, where the refusal
-/// carries it, what was found.
+/// Why a call was turned down. The names of 3, 4 and 10 to 23 are those of the original Rust's `InstructionError` and of the
+/// `OpStackError` within it (12, there `TooShallow`, and 13); it has none for the others. `Display` says what was wanted and, where
+/// the refusal carries it, what was found.
 ///
 /// ```
 /// use kixombu::Refusal;
@@ -21,9 +21,9 @@ pub enum Refusal {
     /// 2, place A: a number that is no word.
     NotAWord,
     /// 3, place A: a slot whose opcode is no instruction's.
-    UnknownOpcode,
+    InvalidOpcode,
     /// 4, place A: an argument that its instruction does not take.
-    BadArgument,
+    IllegalArgument,
     /// 5, place A: a count outside its slice, an unused word that is not 0, an address twice.
     BadState,
 
@@ -103,8 +103,8 @@ impl Refusal {
         Some(match number {
             1 => BadShape,
             2 => NotAWord,
-            3 => UnknownOpcode,
-            4 => BadArgument,
+            3 => InvalidOpcode,
+            4 => IllegalArgument,
             5 => BadState,
             10 => MachineHalted,
             11 => InstructionPointerOverflow,
@@ -149,8 +149,8 @@ impl Refusal {
         match self {
             BadShape => (1, "BadShape"),
             NotAWord => (2, "NotAWord"),
-            UnknownOpcode => (3, "UnknownOpcode"),
-            BadArgument => (4, "BadArgument"),
+            InvalidOpcode => (3, "InvalidOpcode"),
+            IllegalArgument => (4, "IllegalArgument"),
             BadState => (5, "BadState"),
             MachineHalted => (10, "MachineHalted"),
             InstructionPointerOverflow => (11, "InstructionPointerOverflow"),
@@ -198,8 +198,8 @@ impl Display for Refusal {
         match *self {
             BadShape => write!(f, "a slice has more than 16,777,216 elements or a length that does not fit"),
             NotAWord => write!(f, "words must be below 2^64 - 2^32 + 1, found one that is not"),
-            UnknownOpcode => write!(f, "a slot's opcode is no instruction's"),
-            BadArgument => write!(f, "a slot's argument is none that its instruction takes"),
+            InvalidOpcode => write!(f, "a slot's opcode is no instruction's"),
+            IllegalArgument => write!(f, "a slot's argument is none that its instruction takes"),
             BadState => write!(f, "a count outside its slice, an unused word that is not 0, or a RAM address twice"),
             MachineHalted => write!(f, "the machine has halted and takes no further step"),
             InstructionPointerOverflow => write!(f, "an instruction is needed, found the program's end"),

@@ -71,7 +71,7 @@ fn bad_texts_are_named() {
     let output = kixombu(&["make", "-"], b"digest 1 2 3 4 5; pop 9");
     ends(&output, 0, "kixombu: warning: -: line 1, `9`: pop does not take this argument; open refuses it with 4\n");
     let output = kixombu(&["run", "-"], &output.stdout);
-    ends(&output, 1, "kixombu: -: BadArgument (4): a slot's argument is none that its instruction takes\n");
+    ends(&output, 1, "kixombu: -: IllegalArgument (4): a slot's argument is none that its instruction takes\n");
     assert_eq!(text(&output.stdout), "end refused 4 0 0 0\n");
     ends(&kixombu(&["make", "-"], &[0xff]), 1, "kixombu: -: the text is not UTF-8\n");
 }

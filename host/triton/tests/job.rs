@@ -21,9 +21,9 @@ fn open_refuses_by_number() {
     assert_eq!(number(&sound, Sizes { jump_stack: LONGEST + 1, ..small }), Refusal::BadShape);
     assert_eq!(number(&Opening { digest: [0, 0, 0, 0, P], ..sound.clone() }, small), Refusal::NotAWord);
     let program = vec![Slot { opcode: 5, argument: 0 }];
-    assert_eq!(number(&Opening { program, ..sound.clone() }, small), Refusal::UnknownOpcode);
+    assert_eq!(number(&Opening { program, ..sound.clone() }, small), Refusal::InvalidOpcode);
     let program = vec![Slot { opcode: 0, argument: 1 }];
-    assert_eq!(number(&Opening { program, ..sound.clone() }, small), Refusal::BadArgument);
+    assert_eq!(number(&Opening { program, ..sound.clone() }, small), Refusal::IllegalArgument);
     assert_eq!(number(&sound, Sizes { ram: 0, ..small }), Refusal::BadState);
     let ram = vec![(7, 8), (7, 8)];
     assert_eq!(number(&Opening { ram, ..sound }, Sizes { ram: 2, ..small }), Refusal::BadState);

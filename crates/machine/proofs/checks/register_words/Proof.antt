@@ -1,6 +1,6 @@
 -- `machine::checks::register_words` meets its contract. Assumes nothing.
 use borrow.Author.Needs.{needs}
-use Rattle.machine.specs.Words.{wordOf2}
+use Rattle.machine.proofs.Words.{word-above}
 use Rattle.machine.proofs.checks.register_words.Statement.{statement}
 use Rattle.machine.proofs.checks.register_words.Tie as tie
 
@@ -17,8 +17,7 @@ first-requires : tie.Need-first-requires
 first-requires c κs = search needs
 
 returns : tie.Need-returns
-unfolding wordOf2
-returns c = cc
+returns c = cc (word-above _)
 
 pub register-words-spec : {M : Type 1} → statement M
 register-words-spec =

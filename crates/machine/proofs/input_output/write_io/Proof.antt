@@ -1,8 +1,7 @@
 -- `machine::input_output::write_io` meets its contract. Assumes nothing.
 use mathlib.Core.Path.{ap}
 use borrow.Author.Needs.{needs}
-use Rattle.machine.specs.Effect.{acts}
-use Rattle.machine.specs.EffectView.{writing}
+use Rattle.machine.specs.Effect.{acts, writing}
 use Rattle.machine.specs.InputOutput.{writeIoOf}
 use Rattle.machine.proofs.Window.{top-five}
 use Rattle.machine.proofs.input_output.write_io.Statement.{statement}

@@ -2,9 +2,8 @@
 use mathlib.Core.List.{_∷_}
 use Prim.Native.Nat.{_/_}
 use lib.ListN.{take}
-use Rattle.machine.specs.Effect.{acts, u32 as called}
+use Rattle.machine.specs.Effect.{acts, drawing, u32 as called}
 use Rattle.machine.specs.EffectView.{readsFrom}
-use Rattle.machine.specs.HashedParts.{taking}
 use Rattle.machine.proofs.HashedLaws.{no-writes}
 use Rattle.machine.specs.EffectView.{effectOf, u32sOf}
 use borrow.Author.Needs.{needs}
@@ -22,7 +21,7 @@ unfolding effectOf u32sOf
 returns c =
     let a = c .before .before .args in
     rw (c .act .ensures, c .before .nothing .ensures)
-    (λ i. acts (taking (a .digests) (called 4 (a .index) (a .index / 2) ∷ no-writes (readsFrom (a .addresses) (a .values) 0 (a .reads)) (a .addresses) (a .values) (a .reads) i) (a .pops) (take (a .count) (a .words))))
+    (λ i. acts (drawing 0 0 (a .digests) (called 4 (a .index) (a .index / 2) ∷ no-writes (readsFrom (a .addresses) (a .values) 0 (a .reads)) (a .addresses) (a .values) (a .reads) i) (a .pops) (take (a .count) (a .words))))
 
 pub put-step-spec : {M : Type 1} → statement M
 put-step-spec = tie.close (tie.spec nothing-requires act-requires returns)

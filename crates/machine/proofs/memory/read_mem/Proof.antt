@@ -29,9 +29,9 @@ add-puts-ram c = search needs
 puts-ram-requires : tie.Need-puts-ram-requires
 puts-ram-requires c κs = search needs
 
--- behind the reads there is no write
-reads-only : (cs : List Call) (ws : List ℕ) → acts (recording (cs ++ []) 1 ws) ≡ acts (recording cs 1 ws)
-reads-only cs ws = rw (append-nil cs)
+-- the calls are the reads, with no write behind them
+reads-only : {cs ds : List Call} (ws : List ℕ) → cs ≡ ds → acts (recording (cs ++ []) 1 ws) ≡ acts (recording ds 1 ws)
+reads-only {cs} ws h = rw (append-nil cs, h)
 
 returns : tie.Need-returns
 unfolding readMemOf accessesFrom
@@ -42,11 +42,10 @@ returns c =
     let f = k .before .before .before .pre .1 in
     rw (
       c .puts-ram .ensures,
-      k .read-down .ensures .reads,
       words-end (k .read-down .result .words) (k .read-down .result .next) (a .n) (omega arith) (k .read-down .ensures .words),
       k .read-down .ensures .next,
     )
-    (reads-only _ _)
+    (reads-only _ (k .read-down .ensures .reads))
 
 pub read-mem-spec : {M : Type 1} → statement M
 read-mem-spec =
