@@ -4,11 +4,11 @@ use std::time::Instant;
 
 fn main() {
     println!("{:<54}{:>12}", "lent", "step, ms");
-    for used in [16, 1_000, 4_000, 16_000, 32_000, 64_000] {
+    for used in [16, 1_000, 4_000, 16_000, 64_000, 96_000] {
         report(&format!("small, {used} used cells"), 30, 0, Sizes { op_stack: 64, jump_stack: 16, ram: used, output: 16 }, used);
     }
     let longest = Sizes { op_stack: LONGEST, jump_stack: LONGEST, ram: LONGEST, output: LONGEST };
-    for used in [16, 32_000, 64_000] {
+    for used in [16, 64_000, 96_000] {
         report(&format!("every slice at {LONGEST}, {used} used cells"), LONGEST, LONGEST, longest, used);
     }
 }

@@ -92,6 +92,7 @@ fn cases() -> Vec<Box<dyn Fn() -> Case>> {
     for (name, cells, record) in writes {
         cases.push(Box::new(move || records(name, cells as usize, record)));
     }
+    cases.push(Box::new(|| behind(64_000)));
     cases
 }
 
@@ -121,6 +122,13 @@ fn records(name: &str, cells: usize, record: Numbered) -> Case {
         Record::Ram { clock: clock as u32, address, value: if write { clock } else { 0 }, write }
     });
     case(name.to_string(), all, vec![], cells, 0)
+}
+
+/// Distinct writes, none to one of so many cells of the opening.
+fn behind(cells: u64) -> Case {
+    let all = (0..MOST).map(|clock| Record::Ram { clock: clock as u32, address: clock, value: clock, write: true });
+    let ram = (MOST..MOST + cells).map(|address| (address, 1)).collect();
+    case(format!("distinct writes behind {cells} cells of the opening"), all, ram, (MOST + cells) as usize, 0)
 }
 
 /// Waves of a thousand writes and a thousand reads.

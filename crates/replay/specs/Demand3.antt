@@ -1,9 +1,10 @@
--- What demand 3 claims, of an instruction set.
+-- What demand 3 claims, of an instruction set. What stands in quotation marks are the demand's own words.
 use Prim.Native.Nat.{ℕ, _-_, _≤_, _<_}
 use mathlib.Core.Path.{_≡_}
 use mathlib.Core.List.{List, [], _∷_, _++_}
 use lib.ListN.{length, take, replicate}
 use Rattle.machine.specs.Choice.{cond}
+use Rattle.machine.specs.Lengths.{longest}
 use Rattle.machine.specs.Ram.{Cells, cells, Alike}
 use Rattle.machine.specs.Machine.{Machine, Code, Memory}
 use Rattle.machine.specs.Machine as M
@@ -52,7 +53,7 @@ module _ (decide : Machine → Decision) where
     pub count : ℕ
     pub opens : openOf digest code memory count ≡ took m
     pub same : Alike c (M.ram m)
-    pub short : length (logBytes (recordsOfJob decide m asks)) ≤ 16777216
+    pub short : length (logBytes (recordsOfJob decide m asks)) ≤ longest
     pub clock : j ≤ length (jobOf decide m asks)
 
   pub record Demand3 : Type 0 where

@@ -15,7 +15,7 @@ endingIn Halted = halted
 endingIn Spent = spent
 endingIn (Refused e) = refused (refusalOf e)
 
--- how a run ended, by how its steps did; they write no log, and none is full
+-- how a run ended, by how its steps did; they write no log, and none is full (without-log in proofs/StepsLaws.antt)
 abbrev pub unloggedOf : TraceEnding → Ending
 unloggedOf T.halted = halted
 unloggedOf T.spent = spent
