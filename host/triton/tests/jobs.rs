@@ -85,6 +85,26 @@ fn steps_runs_and_traces_agree() {
     }
 }
 
+/// What a call takes of the stack has a bound: replay's table is most of it. Where it does not suffice the process ends.
+#[test]
+fn a_small_stack_suffices() {
+    for name in ["memory", "sponge", "merkle"] {
+        let file = JobFile::read(&read(name, "job")).unwrap();
+        let opened = Job::open(&file.opening, Sizes::RUNJOB).unwrap();
+        let (mut stepped, mut run, mut traced, mut log) = (opened.clone(), opened.clone(), opened, vec![0; 1 << 16]);
+        let calls = move || {
+            stepped.step().unwrap();
+            let ran = run.run(u64::MAX);
+            let trace = traced.trace_execution(u64::MAX, &mut log);
+            let helpers = traced.helper_variables();
+            let replayed = traced.replay(&log[..trace.bytes], u64::MAX);
+            (ran.ending == trace.ending, helpers.is_ok(), replayed.is_ok())
+        };
+        let small = std::thread::Builder::new().stack_size(96 << 10);
+        assert_eq!(small.spawn(calls).unwrap().join().unwrap(), (true, true, true), "{name}");
+    }
+}
+
 type State = (u64, u64, Vec<u64>, Vec<(u64, u64)>, Vec<(u64, u64)>, Vec<u64>, Option<[u64; 16]>);
 
 fn state(job: &Job) -> State {
