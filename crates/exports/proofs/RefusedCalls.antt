@@ -30,7 +30,6 @@ use Rattle.exports.specs.HelperCall.{helped, noHelpers, helperCall}
 use Rattle.exports.specs.ReplayCall.{replied, replayCall}
 use Rattle.exports.proofs.RegistersLaws.{registers-state}
 use Rattle.exports.proofs.CallsLaws.{fits-facts}
-use Rattle.exports.proofs.ReplayCallLaws.{replay-misfits}
 
 -- what a call gives that is refused before a step
 abbrev pub refusedCall : List ℕ → Memory → Refusal → Called
@@ -58,9 +57,6 @@ open-misfit w a g n c m h = rw h
 pub helper-misfit : (w v : List ℕ) (c : Code) (m : Memory) → fitsOf w v 6 ≡ false → helperCall w v c m ≡ helped 1 (noHelpers v)
 unfolding helperCall
 helper-misfit w v c m h = rw h
-
-pub replay-misfit : (a log s : List ℕ) (j : ℕ) (c : Cells) → (length a ≡ 3 → ⊥) → replayCall a log j c s ≡ replied 1 a s (c .addresses) (c .values)
-replay-misfit a log s j c h = sym (replay-misfits a log s j c h)
 
 -- ---- refused
 

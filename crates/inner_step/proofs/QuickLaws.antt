@@ -22,7 +22,7 @@ use Rattle.machine.specs.Effect.{Next, stays, keeps, Effect, acts, refuses}
 use Rattle.machine.specs.EffectView.{u32sOf, accessesFrom, nextOf, effectOf, verdictOf, decisionOf}
 use Rattle.machine.specs.Decide.{opcodeOf, decideOf}
 use Rattle.machine.specs.Apply.{took, touched, appliedStack, pointerAfter, performed, limitsOf, settled}
-use Rattle.machine.specs.Records.{callRecords, stackRecords, recordsOf}
+use Rattle.machine.specs.Records.{callRecords, stackRecords}
 use Rattle.machine.specs.Step.{recordsIn, outcomeBy}
 use Rattle.machine.specs.Sound.{Sound}
 use Rattle.machine.proofs.Choice.{first-zero, above-not}

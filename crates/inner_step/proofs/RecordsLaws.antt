@@ -1,13 +1,12 @@
 -- What the buffer holds where records were written, and where none were. Assumes nothing.
 use mathlib.Core.Path.{_≡_, refl, sym, ap, subst, _∙_}
 use mathlib.Core.Bool.{Bool, true, false}
-use mathlib.Core.List.{List, []}
-use Prim.Native.Nat.{ℕ, _+_}
+use mathlib.Core.List.{List}
+use Prim.Native.Nat.{ℕ}
 use native.Mathlib.Omega.{arith}
-use lib.ListN.{length}
 use Rattle.machine.specs.Choice.{cond}
-use Rattle.machine.specs.Records.{Record, logBytes}
-use Rattle.machine.specs.Logged.{logged, Wrote}
+use Rattle.machine.specs.Records.{Record}
+use Rattle.machine.specs.Logged.{Wrote}
 use Rattle.machine.specs.declared.hashing.Hashed.{Hashed}
 use Rattle.machine.specs.Effect.{Call}
 use Rattle.machine.specs.HashedView.{hashedCalls}

@@ -125,6 +125,21 @@ module _ (decide : Machine → Decision) where
   pub spent-run : (n : ℕ) (m : Machine) → machineA m ≡ 0 → runBy decide n m .count ≡ n → runBy decide n m .left .state .halted ≡ false → runBy decide n m .ending ≡ spent
   spent-run n m h = is-spent (run-ends n m h)
 
+  -- ---- steps of a machine that is halted, and of one that is not
+
+  pub steps-halted : (n : ℕ) (m : Machine) → m .state .halted ≡ true → stepsBy decide n m ≡ ran 0 halted m
+  unfolding stepsBy
+  steps-halted zero m h = rw h
+  steps-halted (suc n) m h = rw h
+
+  pub steps-spent : (m : Machine) → m .state .halted ≡ false → stepsBy decide 0 m ≡ ran 0 spent m
+  unfolding stepsBy
+  steps-spent m h = rw h
+
+  pub steps-on : (n : ℕ) (m : Machine) → m .state .halted ≡ false → stepsBy decide (suc n) m ≡ onStep m (λ x. stepsBy decide n x) (outcomeBy decide m)
+  unfolding stepsBy
+  steps-on n m h = rw h
+
   -- ---- a refused run
 
   -- what a step from x refused with w leaves: x, or x with the word that skiz drops
@@ -139,20 +154,12 @@ module _ (decide : Machine → Decision) where
     pub steps : stepsBy decide (r .count) m ≡ ran (r .count) spent before
     pub leaves : Leaves before w (r .left)
 
-  no-step : (m : Machine) → m .state .halted ≡ false → stepsBy decide 0 m ≡ ran 0 spent m
-  unfolding stepsBy
-  no-step m h = rw h
-
-  on-step : (c : ℕ) (m : Machine) → m .state .halted ≡ false → stepsBy decide (suc c) m ≡ onStep m (λ x. stepsBy decide c x) (outcomeBy decide m)
-  unfolding stepsBy
-  on-step c m h = rw h
-
   one-more : (c : ℕ) (m x y : Machine) → m .state .halted ≡ false → outcomeBy decide m ≡ took x → stepsBy decide c x ≡ ran c spent y →
       stepsBy decide (c + 1) m ≡ ran (c + 1) spent y
   one-more c m x y h e k =
       let q : c + 1 ≡ suc c = omega arith in
       ap (λ (n : ℕ). stepsBy decide n m) q
-      ∙ on-step c m h
+      ∙ steps-on c m h
       ∙ ap (onStep m (λ z. stepsBy decide c z)) e
       ∙ ap (λ (r : Ran). ran (r .count + 1) (r .ending) (r .left)) k
 
@@ -162,8 +169,8 @@ module _ (decide : Machine → Decision) where
   onStep-refused n m w (took x) h e ih q =
       let k = ih x q in
       record { before = k .before; steps = one-more (stepsBy decide n x .count) m x (k .before) h e (k .steps); leaves = k .leaves }
-  onStep-refused n m w (kept r) h e ih q = record { before = m; steps = no-step m h; leaves = all-kept (cc) refl }
-  onStep-refused n m w (lost r x) h e ih q = record { before = m; steps = no-step m h; leaves = word-dropped cc }
+  onStep-refused n m w (kept r) h e ih q = record { before = m; steps = steps-spent m h; leaves = all-kept (cc) refl }
+  onStep-refused n m w (lost r x) h e ih q = record { before = m; steps = steps-spent m h; leaves = word-dropped cc }
 
   steps-refused : (n : ℕ) (m : Machine) (w : Refusal) → stepsBy decide n m .ending ≡ refused w → RefusedAfter m w (stepsBy decide n m)
   unfolding stepsBy
@@ -215,12 +222,6 @@ module _ (decide : Machine → Decision) where
       go true q ih = let z : _≡_ {A = ℕ} 0 1 = cc in absurd (omega arith)
       go false q ih = onStep-more a b m (outcomeBy decide m) ih q
 
-  -- a halted machine stays
-  halted-stays : (b : ℕ) (m : Machine) → m .state .halted ≡ true → stepsBy decide b m ≡ ran 0 halted m
-  unfolding stepsBy
-  halted-stays zero m h = rw h
-  halted-stays (suc b) m h = rw h
-
   onStep-done : (a b : ℕ) (m : Machine) (o : Outcome) → ((x : Machine) → (stepsBy decide a x .ending ≡ spent → ⊥) → stepsBy decide (a + b) x ≡ stepsBy decide a x) →
       (onStep m (λ x. stepsBy decide a x) o .ending ≡ spent → ⊥) → onStep m (λ x. stepsBy decide (a + b) x) o ≡ onStep m (λ x. stepsBy decide a x) o
   onStep-done a b m (took x) ih e = ap (λ (r : Ran). ran (r .count + 1) (r .ending) (r .left)) (ih x e)
@@ -234,7 +235,7 @@ module _ (decide : Machine → Decision) where
       ap (λ (n : ℕ). stepsBy decide n m) k ∙ go (m .state .halted) refl e
     where
       go : (t : Bool) → m .state .halted ≡ t → (cond t halted spent ≡ spent → ⊥) → stepsBy decide b m ≡ ran 0 (cond t halted spent) m
-      go true h q = halted-stays b m h
+      go true h q = steps-halted b m h
       go false h q = absurd (q refl)
   steps-done (suc a) b m e =
       let k : suc a + b ≡ suc (a + b) = omega arith in

@@ -24,7 +24,7 @@ use Rattle.machine.proofs.PlaceA.{machine-accepted}
 use Rattle.machine.proofs.Facts.{facts}
 use Rattle.machine.proofs.Preserved.{limits-fit}
 use Rattle.machine.proofs.Step.{Took, step-took, step-sound}
-use Rattle.machine.proofs.Run.{lost-sound}
+use Rattle.machine.proofs.Run.{steps-halted, steps-spent, steps-on, lost-sound}
 use Rattle.machine.proofs.Drops.{drops-deep}
 use Rattle.machine.proofs.Records.{Sized, sized-other, sized-stack, sized-ram, log-append}
 use Rattle.machine.proofs.Logged.{logged-front}
@@ -95,28 +95,15 @@ records-kept n m r h e = records-on n m h ∙ ap (onTaken (recordsIn m (decideOf
 records-lost : (n : ℕ) (m : Machine) (r : Refusal) (x : Machine) → m .state .halted ≡ false → outcomeBy decideOf m ≡ lost r x → recordsBy (suc n) m ≡ []
 records-lost n m r x h e = records-on n m h ∙ ap (onTaken (recordsIn m (decideOf m)) (λ x. recordsBy n x)) e
 
-steps-halted : (n : ℕ) (m : Machine) → m .state .halted ≡ true → stepsBy decideOf n m ≡ ran 0 R.halted m
-unfolding stepsBy
-steps-halted zero m h = rw h
-steps-halted (suc n) m h = rw h
-
-steps-spent : (m : Machine) → m .state .halted ≡ false → stepsBy decideOf 0 m ≡ ran 0 R.spent m
-unfolding stepsBy
-steps-spent m h = rw h
-
-steps-on : (n : ℕ) (m : Machine) → m .state .halted ≡ false → stepsBy decideOf (suc n) m ≡ onStep m (λ x. stepsBy decideOf n x) (outcomeBy decideOf m)
-unfolding stepsBy
-steps-on n m h = rw h
-
 steps-took : (n : ℕ) (m x : Machine) → m .state .halted ≡ false → outcomeBy decideOf m ≡ took x →
     stepsBy decideOf (suc n) m ≡ ran (stepsBy decideOf n x .count + 1) (stepsBy decideOf n x .ending) (stepsBy decideOf n x .left)
-steps-took n m x h e = steps-on n m h ∙ ap (onStep m (λ x. stepsBy decideOf n x)) e
+steps-took n m x h e = steps-on decideOf n m h ∙ ap (onStep m (λ x. stepsBy decideOf n x)) e
 
 steps-kept : (n : ℕ) (m : Machine) (r : Refusal) → m .state .halted ≡ false → outcomeBy decideOf m ≡ kept r → stepsBy decideOf (suc n) m ≡ ran 0 (R.refused r) m
-steps-kept n m r h e = steps-on n m h ∙ ap (onStep m (λ x. stepsBy decideOf n x)) e
+steps-kept n m r h e = steps-on decideOf n m h ∙ ap (onStep m (λ x. stepsBy decideOf n x)) e
 
 steps-lost : (n : ℕ) (m : Machine) (r : Refusal) (x : Machine) → m .state .halted ≡ false → outcomeBy decideOf m ≡ lost r x → stepsBy decideOf (suc n) m ≡ ran 0 (R.refused r) x
-steps-lost n m r x h e = steps-on n m h ∙ ap (onStep m (λ x. stepsBy decideOf n x)) e
+steps-lost n m r x h e = steps-on decideOf n m h ∙ ap (onStep m (λ x. stepsBy decideOf n x)) e
 
 traces-halted : (n room : ℕ) (m : Machine) → m .state .halted ≡ true → tracesOf n room m ≡ traced 0 halted m []
 unfolding tracesOf
@@ -217,10 +204,10 @@ part zero room m s = go (m .state .halted) refl
     go : (t : Bool) → m .state .halted ≡ t → Part 0 room m (tracesOf 0 room m)
     go true h =
         subst (Part 0 room m) (sym (traces-halted 0 room m h))
-        (part-none 0 room m halted m s (λ q. let z : _≡_ {A = ℕ} 0 1 = cc in absurd (omega arith)) (records-halted 0 m h) (steps-halted 0 m h))
+        (part-none 0 room m halted m s (λ q. let z : _≡_ {A = ℕ} 0 1 = cc in absurd (omega arith)) (records-halted 0 m h) (steps-halted decideOf 0 m h))
     go false h =
         subst (Part 0 room m) (sym (traces-spent room m h))
-        (part-none 0 room m spent m s (λ q. let z : _≡_ {A = ℕ} 0 1 = cc in absurd (omega arith)) (records-none m) (steps-spent m h))
+        (part-none 0 room m spent m s (λ q. let z : _≡_ {A = ℕ} 0 1 = cc in absurd (omega arith)) (records-none m) (steps-spent decideOf m h))
 part (suc n) room m s = go (m .state .halted) refl (λ x k. part n (room - length (stepLog m)) x k)
   where
     Rest : Type 0
@@ -235,7 +222,7 @@ part (suc n) room m s = go (m .state .halted) refl (λ x k. part n (room - lengt
     go : (t : Bool) → m .state .halted ≡ t → Rest → Part (suc n) room m (tracesOf (suc n) room m)
     go true h ih =
         subst (Part (suc n) room m) (sym (traces-halted (suc n) room m h))
-        (part-none (suc n) room m halted m s (λ q. let z : _≡_ {A = ℕ} 0 1 = cc in absurd (omega arith)) (records-halted (suc n) m h) (steps-halted (suc n) m h))
+        (part-none (suc n) room m halted m s (λ q. let z : _≡_ {A = ℕ} 0 1 = cc in absurd (omega arith)) (records-halted (suc n) m h) (steps-halted decideOf (suc n) m h))
     go false h ih = on ih h (ltb room 1024) refl
 
 -- ---- texts

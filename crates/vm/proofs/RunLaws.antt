@@ -17,23 +17,23 @@ use Rattle.vm.specs.declared.answer.Ran.{Ran}
 use Rattle.vm.specs.declared.answer.Traced.{Traced}
 use Rattle.vm.specs.Trace.{Traced as TraceGives}
 use Rattle.vm.specs.TraceView.{TracedAs, endingIn as traceEndingIn}
-use Rattle.vm.specs.StepsView.{TracesOn}
+use Rattle.vm.specs.StepsView.{StepsOn}
 use Rattle.vm.specs.RunView.{endingIn, unloggedOf, RanAs, Runs}
-use Rattle.vm.proofs.StepsLaws.{asTrace, unlogged, without-log}
+use Rattle.vm.proofs.StepsLaws.{endingAsTrace, runAsTrace, without-log}
 
-unlogged-back : (e : Ending) → unloggedOf (asTrace e) ≡ e
-unlogged-back halted = refl
-unlogged-back spent = refl
-unlogged-back (refused r) = refl
+ending-back : (e : Ending) → unloggedOf (endingAsTrace e) ≡ e
+ending-back halted = refl
+ending-back spent = refl
+ending-back (refused r) = refl
 
 module _ (budget : ℕ) (m : Machine) where
-  pub run-accepted : {b b2 : List ℕ} {t : Traced} {n : Memory} {e : EndingIn} → machineA m ≡ 0 → TracesOn false budget m b t n b2 → endingIn e ≡ unloggedOf (traceEndingIn (t .ending)) →
+  pub run-accepted : {b b2 : List ℕ} {t : Traced} {n : Memory} {e : EndingIn} → machineA m ≡ 0 → StepsOn false budget m b t n b2 → endingIn e ≡ unloggedOf (traceEndingIn (t .ending)) →
       Runs budget m (record { count = t .count; ending = e; state = t .state }) n
   run-accepted {b} {b2} {t} {n} {e} z h q =
       let g = stepsBy decideOf budget m in
-      let k : TracedAs (unlogged g) (m .code) b t n b2 = subst (λ (x : TraceGives). TracedAs x (m .code) b t n b2) (without-log budget _ m) h in
+      let k : TracedAs (runAsTrace g) (m .code) b t n b2 = subst (λ (x : TraceGives). TracedAs x (m .code) b t n b2) (without-log budget _ m) h in
       subst (λ (x : RunGives). RanAs x (m .code) (record { count = t .count; ending = e; state = t .state }) n) (sym (run-is decideOf budget m z))
-      (record { count = k .count; ending = q ∙ ap unloggedOf (k .ending) ∙ unlogged-back (g .ending); left = k .left })
+      (record { count = k .count; ending = q ∙ ap unloggedOf (k .ending) ∙ ending-back (g .ending); left = k .left })
 
   pub run-turned : {n : ℕ} {x : InstructionError} → n ≡ machineA m → (n ≡ 0 → ⊥) → refusalOf x ≡ plainly n → Runs budget m (record { count = 0; ending = E.Refused x; state = m .state }) (m .memory)
   run-turned {n} {x} e z h =

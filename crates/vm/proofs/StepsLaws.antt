@@ -1,7 +1,7 @@
 -- One turn of the loop of run and trace_execution, and its ends; and that it is run without records, trace_execution with
 -- them. Assumes nothing.
 use mathlib.Core.Path.{_≡_, refl, sym, ap, subst, _∙_}
-use mathlib.Core.Bool.{Bool, true, false, true≢false}
+use mathlib.Core.Bool.{Bool, true, false}
 use mathlib.Core.List.{List, [], _++_, append-assoc, append-nil}
 use Prim.Native.Nat.{ℕ, zero, suc, zero-le, _+_, _-_, _≤_, _<_}
 use native.Mathlib.Omega.{arith}
@@ -34,7 +34,7 @@ use Rattle.vm.specs.declared.answer.TraceEnding.{TraceEnding as EndingIn
 use Rattle.vm.specs.declared.answer.TraceEnding.the-variants as E
 use Rattle.vm.specs.Trace.{TraceEnding, halted, spent, full, refused, Traced as TraceGives, traced, stepLog, onTrace, tracesOf}
 use Rattle.vm.specs.TraceView.{endingIn, endOf, TracedAs}
-use Rattle.vm.specs.StepsView.{ownLog, fullAt, stepsOf, StandingAt, logIn, AdvancedAt, StandingIn, TracesOn}
+use Rattle.vm.specs.StepsView.{ownLog, fullAt, stepsOf, StandingAt, logIn, AdvancedAt}
 
 -- ---- what it is
 
@@ -45,26 +45,26 @@ with-log (suc n) room m =
     ap (λ (k : Machine → TraceGives). cond (m .state .halted) (traced 0 halted m []) (cond (ltb room 1024) (traced 0 full m []) (onTrace (stepLog m) m k (outcomeBy decideOf m))))
     (λ i x. with-log n (room - length (stepLog m)) x i)
 
--- a run's ending and what it gives, as those of steps that wrote no log
-abbrev pub asTrace : R.Ending → TraceEnding
-asTrace R.halted = halted
-asTrace R.spent = spent
-asTrace (R.refused r) = refused r
+-- a run's ending, and what it gives, as a trace that wrote no log
+abbrev pub endingAsTrace : R.Ending → TraceEnding
+endingAsTrace R.halted = halted
+endingAsTrace R.spent = spent
+endingAsTrace (R.refused r) = refused r
 
-abbrev pub unlogged : R.Ran → TraceGives
-unlogged r = traced (r .count) (asTrace (r .ending)) (r .left) []
+abbrev pub runAsTrace : R.Ran → TraceGives
+runAsTrace r = traced (r .count) (endingAsTrace (r .ending)) (r .left) []
 
-pub without-log : (n room : ℕ) (m : Machine) → stepsOf false n room m ≡ unlogged (stepsBy decideOf n m)
+pub without-log : (n room : ℕ) (m : Machine) → stepsOf false n room m ≡ runAsTrace (stepsBy decideOf n m)
 unfolding stepsOf stepsBy
 without-log zero room m = go (m .state .halted)
   where
-    go : (t : Bool) → traced 0 (cond t halted spent) m [] ≡ unlogged (R.ran 0 (cond t R.halted R.spent) m)
+    go : (t : Bool) → traced 0 (cond t halted spent) m [] ≡ runAsTrace (R.ran 0 (cond t R.halted R.spent) m)
     go true = refl
     go false = refl
 without-log (suc n) room m = go (λ x. without-log n (room - 0) x) (m .state .halted) (outcomeBy decideOf m)
   where
-    go : ((x : Machine) → stepsOf false n (room - 0) x ≡ unlogged (stepsBy decideOf n x)) → (t : Bool) (o : Outcome) →
-        cond t (traced 0 halted m []) (onTrace [] m (λ x. stepsOf false n (room - 0) x) o) ≡ unlogged (cond t (R.ran 0 R.halted m) (onStep m (λ x. stepsBy decideOf n x) o))
+    go : ((x : Machine) → stepsOf false n (room - 0) x ≡ runAsTrace (stepsBy decideOf n x)) → (t : Bool) (o : Outcome) →
+        cond t (traced 0 halted m []) (onTrace [] m (λ x. stepsOf false n (room - 0) x) o) ≡ runAsTrace (cond t (R.ran 0 R.halted m) (onStep m (λ x. stepsBy decideOf n x) o))
     go h true o = refl
     go h false (took x) = rw (h x)
     go h false (kept r) = refl

@@ -18,7 +18,7 @@ use Rattle.vm.specs.declared.answer.TraceEnding.the-variants as E
 use Rattle.vm.specs.declared.answer.Traced.{Traced}
 use Rattle.vm.specs.Trace.{refused, Traced as TraceGives, traced, tracesOf, traceA, traceExecutionOf}
 use Rattle.vm.specs.TraceView.{TracedAs, Traces}
-use Rattle.vm.specs.StepsView.{StandingIn, TracesOn}
+use Rattle.vm.specs.StepsView.{StandingIn, StepsOn}
 use Rattle.vm.proofs.FaultsLaws.{first-few, above-few, machineA-few}
 use Rattle.vm.proofs.StepsLaws.{with-log}
 
@@ -38,7 +38,7 @@ unfolding traceA
 traceA-few m b = first-few (above-few (length b) longest 1 (omega arith)) (machineA-few m)
 
 module _ (budget : ℕ) (m : Machine) (b : List ℕ) where
-  pub trace-accepted : {r : Traced} {n : Memory} {b2 : List ℕ} → traceA m b ≡ 0 → TracesOn true budget m b r n b2 → Traces budget m b r n b2
+  pub trace-accepted : {r : Traced} {n : Memory} {b2 : List ℕ} → traceA m b ≡ 0 → StepsOn true budget m b r n b2 → Traces budget m b r n b2
   unfolding traceExecutionOf
   trace-accepted {r} {n} {b2} z h = subst (λ (x : Bool). TracedAs (cond x (tracesOf budget (length b) m) (traced 0 (refused (plainly (traceA m b))) m [])) (m .code) b r n b2) (sym (eq-eqb (traceA m b) 0 z))
       (subst (λ (g : TraceGives). TracedAs g (m .code) b r n b2) (with-log budget (length b) m) h)

@@ -60,5 +60,5 @@ pub record StandingIn (m : Machine) (b : List ℕ) : Type 0 where
   pub sound : Sound m
   pub few : length b ≤ longest
 
-abbrev pub TracesOn : Bool → ℕ → Machine → List ℕ → Traced → Memory → List ℕ → Type 0
-TracesOn t budget m b r n b2 = TracedAs (stepsOf t budget (length b) m) (m .code) b r n b2
+abbrev pub StepsOn : Bool → ℕ → Machine → List ℕ → Traced → Memory → List ℕ → Type 0
+StepsOn t budget m b r n b2 = TracedAs (stepsOf t budget (length b) m) (m .code) b r n b2

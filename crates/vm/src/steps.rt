@@ -2,7 +2,7 @@
 ghost use mathlib.Core.Path.{_≡_};
 ghost use Rattle.machine.specs.Machine.{machine, code, memory};
 ghost use Rattle.vm.specs.TraceView.{endOf};
-ghost use Rattle.vm.specs.StepsView.{fullAt, StandingAt, AdvancedAt, StandingIn, TracesOn};
+ghost use Rattle.vm.specs.StepsView.{fullAt, StandingAt, AdvancedAt, StandingIn, StepsOn};
 use crate::answer::TraceEnding;
 use crate::answer::Traced;
 use inner_step::advance::advance;
@@ -92,7 +92,7 @@ pub fn steps(
 ) -> Traced
     requires { ⌜ StandingIn (machine state (code (now opcodes) (now arguments) (now public) (now secret) (now digests))
         (memory (now «op_stack») (now origins) (now destinations) (now addresses) (now values) (now output))) (now b) ⌝ }
-    ensures { λ r. ⌜ TracesOn recording budget (machine state (code (now (opcodes .entry)) (now (arguments .entry)) (now (public .entry)) (now (secret .entry)) (now (digests .entry)))
+    ensures { λ r. ⌜ StepsOn recording budget (machine state (code (now (opcodes .entry)) (now (arguments .entry)) (now (public .entry)) (now (secret .entry)) (now (digests .entry)))
         (memory (now («op_stack» .entry)) (now (origins .entry)) (now (destinations .entry)) (now (addresses .entry)) (now (values .entry)) (now (output .entry)))) (now (b .entry)) r
         (memory (now («op_stack» .exit)) (now (origins .exit)) (now (destinations .exit)) (now (addresses .exit)) (now (values .exit)) (now (output .exit))) (now (b .exit)) ⌝ }
 {

@@ -85,14 +85,15 @@ fn steps_runs_and_traces_agree() {
     }
 }
 
-/// What a call takes of the stack has a bound: replay's table is most of it. Where it does not suffice the process ends.
+/// A job's calls in a thread with a small stack, most of which replay's table takes. Where it does not suffice the process ends.
 #[test]
 fn a_small_stack_suffices() {
     for name in ["memory", "sponge", "merkle"] {
         let file = JobFile::read(&read(name, "job")).unwrap();
-        let opened = Job::open(&file.opening, Sizes::RUNJOB).unwrap();
-        let (mut stepped, mut run, mut traced, mut log) = (opened.clone(), opened.clone(), opened, vec![0; 1 << 16]);
+        let mut log = vec![0; 1 << 16];
         let calls = move || {
+            let mut stepped = Job::open(&file.opening, Sizes::RUNJOB).unwrap();
+            let (mut run, mut traced) = (Box::new(stepped.clone()), Box::new(stepped.clone()));
             stepped.step().unwrap();
             let ran = run.run(u64::MAX);
             let trace = traced.trace_execution(u64::MAX, &mut log);
