@@ -11,7 +11,7 @@ import struct
 from pathlib import Path
 
 TOP = Path(__file__).resolve().parents[2]
-BYTES, SLOTS, NO_BUDGET = 65536, 1024, 1000000
+BYTES, SLOTS, NO_BUDGET = 65536, 1024, 16000000
 # kind: bytes of its fields
 FIELDS = {11: 40, 12: 10, 13: 8, 14: 8, 15: 40, 16: 16, 17: 4}
 NAMES = {11: "digest", 12: "slot", 13: "public", 14: "secret", 15: "secret digest", 16: "cell", 17: "budget"}
@@ -229,14 +229,14 @@ def slots():
 
 
 def budgets():
-    for n in (0, 1, 999999, 1000000, 2**31, 2**32 - 1):
+    for n in (0, 1, 1000000, 15999999, 16000000, 2**31, 2**32 - 1):
         sound(f"budget {n}", DIGEST, EXAMPLE, budget(n))
     sound("a budget behind the digest", DIGEST, budget(5), EXAMPLE)
     sound("a budget between slots", DIGEST, EXAMPLE[:42], budget(6), EXAMPLE[42:])
     broken("a budget in front of the digest", budget(5), DIGEST, EXAMPLE)
     broken("two budgets", DIGEST, EXAMPLE, budget(5), budget(6))
     broken("two budgets, the same", DIGEST, EXAMPLE, budget(5), budget(5))
-    broken("two budgets of 1,000,000", DIGEST, budget(NO_BUDGET), budget(NO_BUDGET))
+    broken("two budgets of 16,000,000", DIGEST, budget(NO_BUDGET), budget(NO_BUDGET))
     broken("two budgets, slots between", DIGEST, budget(0), EXAMPLE, budget(0))
     broken("three budgets", DIGEST, budget(5), budget(5), budget(5))
 

@@ -38,7 +38,7 @@ exampleJob =
       digests = [];
       addresses = [];
       values = [];
-      budget = 1000000;
+      budget = 16000000;
     }
 
 example-job : jobOf exampleFile ≡ exampleJob

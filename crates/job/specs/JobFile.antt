@@ -93,6 +93,10 @@ faultOf b =
     (firstOf (aboveOf (countOf 12 (piecesOf b)) 1024 50)
     (firstOf (aboveOf (countOf 17 (piecesOf b)) 1 50) (differOf (countOf 0 (piecesOf b)) 0 50)))))
 
+-- what an absent record of kind 17 means
+abbrev pub defaultBudget : ℕ
+defaultBudget = 16000000
+
 abbrev pub goodJob : List Piece → Job
 goodJob qs =
     record {
@@ -105,8 +109,7 @@ goodJob qs =
       digests = column 15 0 8 5 qs;
       addresses = column 16 0 8 1 qs;
       values = column 16 8 8 1 qs;
-      -- absent means 1,000,000
-      budget = getD (column 17 0 4 1 qs) 0 1000000;
+      budget = getD (column 17 0 4 1 qs) 0 defaultBudget;
     }
 
 abbrev pub brokenJob : ℕ → Job

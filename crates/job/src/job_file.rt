@@ -7,13 +7,16 @@ ghost use Rattle.machine.specs.Choice.{cond};
 ghost use Rattle.job.specs.Frame.{sizeBy};
 ghost use Rattle.job.specs.Listing.{Put};
 ghost use Rattle.job.specs.JobFileView.{lent, Room, brokenFile, Says};
-ghost use Rattle.job.specs.JobFile.{lengthIn, pieceKind, pieceSize, piecesOf, countOf, numbersIn, column as columnOf, faultOf, jobOf, Inside, Wanted, Filled};
+ghost use Rattle.job.specs.JobFile.{lengthIn, pieceKind, pieceSize, piecesOf, countOf, numbersIn, column as columnOf, faultOf, jobOf, defaultBudget, Inside, Wanted, Filled};
 use crate::frame::kind_at;
 use crate::frame::number_at;
 use crate::frame::whole_at;
 use machine::checks::above;
 use machine::checks::differ;
 use machine::checks::first;
+
+// What a file without a record of kind 17 may take.
+const DEFAULT_BUDGET: u64 = 16000000;
 
 // ---- records
 
@@ -161,9 +164,9 @@ fn digest_of(file: &[u8]) -> [u64; 5]
 // The budget's record overwrites what an absent one means.
 fn budget_of(file: &[u8]) -> u64
     requires { ⌜ faultOf (now file) ≡ 0 ⌝ }
-    ensures { λ r. ⌜ r ≡ getD (columnOf 17 0 4 1 (piecesOf (now (file .entry)))) 0 1000000 ⌝ }
+    ensures { λ r. ⌜ r ≡ getD (columnOf 17 0 4 1 (piecesOf (now (file .entry)))) 0 defaultBudget ⌝ }
 {
-    let mut words = [1000000u64; 1];
+    let mut words = [DEFAULT_BUDGET; 1];
     column(file, 17, 0, 4, 1, &mut words);
     words[0]
 }

@@ -16,8 +16,8 @@ impl JobFile {
     pub const MOST_BYTES: usize = 65_536;
     /// One with more is broken.
     pub const MOST_SLOTS: usize = 1_024;
-    /// The budget where a file says none.
-    pub const BUDGET: u32 = 1_000_000;
+    /// The budget where a file says none; [`write`](Self::write) names it too.
+    pub const BUDGET: u32 = 16_000_000;
 
     /// Reads a file, or says where it is broken: document 01's number 50. Whether its job opens is for
     /// [`Job::open`](crate::Job::open) to say.

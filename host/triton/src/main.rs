@@ -24,7 +24,8 @@ A text has one item to a line or between semicolons, and remarks behind #:
     push 3; call loop; halt
     loop: addi -1; dup 0; skiz; recurse; return
 Also slot OPCODE ARGUMENT, a slot as it is, and byte N. The digest comes first; -1 stands for p - 1.
-A job is lent 4,096 op stack words, 1,024 jump stack entries, 4,096 RAM cells and 4,096 output words.
+A job is lent 4,096 op stack words, 1,024 jump stack entries, 4,096 RAM cells and 4,096 output words; without a budget it
+may take 16,000,000 steps.
 
 Exit status: 0 done, or the job halted, or who reads the output has closed it; 1 the job or the log is refused, or the text
 is bad; 2 bad usage, or a file that cannot be read or written; 3 the job's budget is spent.";

@@ -222,6 +222,15 @@ fn odd_files() {
 
 /// Progress is shown of a run that takes over a second, and of no other.
 #[test]
+fn the_default_budget() {
+    for (budget, end) in [("", "end spent 16000000 2 16\n"), ("budget 1000000; ", "end spent 1000000 2 16\n")] {
+        let made = kixombu(&["make", "-"], format!("digest 1 2 3 4 5; {budget}call f; f: recurse").as_bytes()).stdout;
+        let output = kixombu(&["run", "-"], &made);
+        assert_eq!((text(&output.stdout).as_str(), output.status.code()), (end, Some(3)));
+    }
+}
+
+#[test]
 fn progress_of_long_runs() {
     let endless = kixombu(&["make", "-"], b"digest 1 2 3 4 5; budget 4294967295; f: call f").stdout;
     let job = Temporary::new("endless.job");

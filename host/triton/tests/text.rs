@@ -25,7 +25,7 @@ fn items() {
     assert_eq!(opening.program, slots(&[(65535, 6)]));
     assert_eq!(program("push -0; addi -18446744069414584322"), slots(&[(1, 0), (1, 0), (65, P - 1), (65, P - 1)]));
     let none = make("digest 1 2 3 4 5").unwrap();
-    assert_eq!(JobFile::read(&none.file).unwrap().budget, 1_000_000);
+    assert_eq!(JobFile::read(&none.file).unwrap().budget, 16_000_000);
 }
 
 #[test]
