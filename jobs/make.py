@@ -4,7 +4,7 @@
 The text has one item to a line or between semicolons; # begins a remark; -1 stands for p - 1. Items: digest (5 words, first), public
 and secret (words), secret_digest (5 words), ram (address, value), budget, slot (opcode, argument: a slot as it is), byte (a byte as it
 is, for a broken file), and instructions by name with their argument, which give as many slots as they are long. There are no labels: a
-call's argument is the number of a slot."""
+call's argument is the number of a slot. Records stand in the text's order; ram's addresses must ascend, and nothing sorts them."""
 import struct, sys
 
 P = 2**64 - 2**32 + 1

@@ -10,11 +10,15 @@ use kixombu::exports::{step_registers, Registers};
 use std::hint::black_box;
 use std::time::{Duration, Instant};
 
-/// Short turns, and many, as on a busy machine a long one is never undisturbed.
+/// Short turns, and many, as on a busy machine a long one is never undisturbed. Of jobs with many cells a turn is long.
 const TURNS: usize = 40;
+const LONG_TURNS: usize = 8;
 const TURN: Duration = Duration::from_millis(2);
-/// As the oracle does.
+/// As the oracle does, and fewer of states that are large.
 const STATES_FOR_HELPERS: usize = 256;
+const LARGE_STATES: usize = 16;
+/// From so many cells on.
+const MANY_CELLS: usize = 50_000;
 
 struct Case {
     name: &'static str,
@@ -24,7 +28,7 @@ struct Case {
 
 fn main() {
     let oracle = Oracle::new("bench");
-    println!("{:<34}{:<18}{:>12}{:>10}{:>10}", "job", "call", "library ns", "Rust ns", "ratio");
+    println!("{:<38}{:<18}{:>12}{:>10}{:>10}", "job", "call", "library ns", "Rust ns", "ratio");
     for case in cases() {
         report(&case, &oracle);
     }
@@ -37,11 +41,12 @@ fn report(case: &Case, oracle: &Oracle) {
     let ran = machine.run(&LIBRARY, u64::MAX);
     assert_eq!(ran[answer::ENDING], ending::DONE, "{}: {ran:?}", case.name);
     let steps = ran[answer::STEPS];
-    let states = first_states(&start);
+    let has_many = case.room.cells >= MANY_CELLS;
+    let mut states = first_states(&start, if has_many { LARGE_STATES } else { STATES_FOR_HELPERS });
     let mut best = [f64::MAX; 5];
     let mut theirs = [f64::MAX; 3];
-    for _ in 0..TURNS {
-        let turns = [by_run(&start), by_trace(&start, steps), by_step(&start), by_record(&start), by_helpers(&states)];
+    for _ in 0..if has_many { LONG_TURNS } else { TURNS } {
+        let turns = [by_run(&start), by_trace(&start, steps), by_step(&start), by_record(&start), by_helpers(&mut states)];
         best.iter_mut().zip(turns).for_each(|(best, turn)| *best = best.min(turn));
         for (name, time) in oracle.bench(&case.job, steps) {
             let place = ["run", "step", "helpers"].iter().position(|known| *known == name).unwrap();
@@ -57,7 +62,7 @@ fn report(case: &Case, oracle: &Oracle) {
         ("helper_variables", best[4], theirs[2]),
     ];
     for (call, ours, theirs) in rows {
-        println!("{:<34}{call:<18}{ours:>12.1}{theirs:>10.1}{:>10.2}", case.name, ours / theirs);
+        println!("{:<38}{call:<18}{ours:>12.1}{theirs:>10.1}{:>10.2}", case.name, ours / theirs);
     }
 }
 
@@ -132,8 +137,7 @@ fn in_a_turn(mut step: impl FnMut() -> u64) -> (Duration, u64) {
     (began.elapsed(), taken)
 }
 
-fn by_helpers(states: &[Machine]) -> f64 {
-    let mut states = states.to_vec();
+fn by_helpers(states: &mut [Machine]) -> f64 {
     per_step(|| {
         let began = Instant::now();
         states.iter_mut().for_each(|state| {
@@ -143,10 +147,10 @@ fn by_helpers(states: &[Machine]) -> f64 {
     })
 }
 
-fn first_states(start: &Machine) -> Vec<Machine> {
+fn first_states(start: &Machine, most: usize) -> Vec<Machine> {
     let mut machine = start.clone();
     let mut states = vec![];
-    while states.len() < STATES_FOR_HELPERS {
+    while states.len() < most {
         states.push(machine.clone());
         if machine.run(&LIBRARY, 1)[answer::ENDING] == ending::DONE {
             break;
@@ -179,6 +183,10 @@ fn cases() -> Vec<Case> {
         case("memory, 16 cells", memory(16), 30, 16, 64, 16, 16),
         case("memory, 1,000 cells", memory(1000), 30, 16, 64, 1000, 1000),
         case("memory, 4,000 cells", memory(4000), 30, 16, 64, 4000, 4096),
+        case("memory, 100,000 cells", memory(100_000), 30, 16, 64, 100_000, 100_000),
+        front("writes in front of 1,000 cells", 1000, 100),
+        front("writes in front of 4,000 cells", 4000, 400),
+        front("writes in front of 100,000 cells", 100_000, 1000),
     ]
 }
 
@@ -196,9 +204,7 @@ fn case(
     while slots_all.len() < slots {
         slots_all.push((named("nop").opcode, 0));
     }
-    let mut random = Random::new(7);
-    let mut ram: Vec<(u64, u64)> = (1..=cells as u64).map(|address| (address, address)).collect();
-    (1..ram.len()).for_each(|i| ram.swap(i, random.index(i + 1)));
+    let ram = (1..=cells as u64).map(|address| (address, address)).collect();
     let start = Start { stack: vec![0; depth], ..Start::default() };
     let job = Job { slots: slots_all, ram, budget: 10_000_000, start: Some(start), ..Job::default() };
     Case { name, job, room: Room { stack, jumps: 16, cells: lent, output: 16 } }
@@ -225,6 +231,14 @@ fn hashing() -> Vec<(u64, u64)> {
 /// Five words read and written again, from the highest address downward.
 fn memory(cells: u64) -> Vec<(u64, u64)> {
     loop_of(&["dup 0", "addi 4", "read_mem 5", "addi 1", "write_mem 5", "pop 1"], cells - 4)
+}
+
+/// So many new cells in front of those that are there: each turn writes to an address below all others.
+fn front(name: &'static str, cells: usize, new: u64) -> Case {
+    let program = loop_of(&["dup 0", "dup 0", "write_mem 1", "pop 1"], new);
+    let mut case = case(name, program, 30, 16, 64, cells, cells + new as usize);
+    case.job.ram.iter_mut().for_each(|cell| cell.0 += new);
+    case
 }
 
 /// Slots of instructions as text.

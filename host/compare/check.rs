@@ -1,6 +1,7 @@
 //! One job three ways: what the oracle reports, the model and the library.
+use crate::cells::ascend;
 use crate::job::{Before, Job, Room};
-use crate::lent::{answer, ending, register, Answer, Calls, Machine, LIBRARY, STEP_BYTES};
+use crate::lent::{answer, ending, Answer, Calls, Machine, LIBRARY, STEP_BYTES};
 use crate::model::MODEL;
 use crate::oracle::{End, Refused, Report, State};
 use crate::random::Random;
@@ -79,6 +80,15 @@ pub fn used(job: &Job, report: &Report) -> Room {
     }
 }
 
+/// The order of cells, which the oracle has not, put into its report: a job whose addresses do not ascend is refused with 5. What
+/// the oracle's program refuses, an address twice too, comes before that or is the same.
+pub fn ordered(job: &Job, report: Report) -> Report {
+    if report.opened.is_none() || ascend(&job.ram) {
+        return report;
+    }
+    Report { end: End::Refused(5), ..Report::default() }
+}
+
 /// Place D, which the oracle has not, put into its report: the first step that does not fit the room, or that would pass the
 /// clock's end, is refused and leaves the state before it.
 pub fn limited(mut report: Report, room: Room) -> Report {
@@ -127,7 +137,7 @@ pub fn check(job: &Job, report: &Report, room: Room, random: &mut Random) -> Che
             both
         }
     };
-    check.state("the start", opened, &job.ram, &start)?;
+    check.state("the start", opened, &start)?;
     check.steps(start.clone(), random)?;
     check.runs(&start, random)?;
     check.traces(&start, random)
@@ -140,20 +150,16 @@ struct Check<'a> {
 }
 
 impl Check<'_> {
-    /// The oracle's state, and its cells in the order of the writes, beside the machine (which is the model's too).
-    fn state(&self, what: &str, state: &State, cells: &[(u64, u64)], both: &Both) -> Checked<()> {
+    /// The oracle's state beside the machine (which is the model's too). The oracle prints cells by address, as the machine has
+    /// them.
+    fn state(&self, what: &str, state: &State, both: &Both) -> Checked<()> {
         let before = &self.before;
         let taken = [before.public.len(), before.secret.len(), before.digests.len()].map(|n| n as u64);
         let found = State::of(&both.library, taken, before.output.len());
-        same(what, ("oracle", state), ("library", &found))?;
-        let machine = &both.library;
-        let used = machine.registers[register::CELLS] as usize;
-        let found: Vec<_> = machine.addresses.iter().copied().zip(machine.values.iter().copied()).take(used).collect();
-        same(&format!("{what}, cells in order"), ("oracle", &cells.to_vec()), ("library", &found))
+        same(what, ("oracle", state), ("library", &found))
     }
 
     fn steps(&self, mut both: Both, random: &mut Random) -> Checked<()> {
-        let mut cells = self.job.ram.clone();
         let spare = random.index(3);
         for (i, step) in self.report.tried.iter().enumerate() {
             let what = format!("step {i}");
@@ -172,10 +178,7 @@ impl Check<'_> {
             same(&format!("{what}, answer"), ("oracle", &answer_of(&step.result, 1, bytes.len())), ("library", &answer))?;
             bytes.resize(buffer.len(), filling);
             same(&format!("{what}, bytes"), ("oracle", &bytes), ("library", &buffer))?;
-            if let Ok(records) = &step.result {
-                write_cells(&mut cells, records);
-            }
-            self.state(&what, &step.state, &cells, &both)?;
+            self.state(&what, &step.state, &both)?;
         }
         // behind a refusal: a skiz that dropped its word may go on; here only the model answers
         for _ in 0..3 {
@@ -187,11 +190,10 @@ impl Check<'_> {
         Ok(())
     }
 
-    /// The answer, the state, the cells and the bytes of a run with this budget and, with a log, this length of it.
-    fn run_to(&self, budget: u64, log: Option<usize>) -> (Answer, &State, Vec<(u64, u64)>, Vec<u8>) {
+    /// The answer, the state and the bytes of a run with this budget and, with a log, this length of it.
+    fn run_to(&self, budget: u64, log: Option<usize>) -> (Answer, &State, Vec<u8>) {
         let mut state = self.report.opened.as_ref().unwrap();
-        let (mut cells, mut bytes) = (self.job.ram.clone(), vec![]);
-        let mut taken = 0;
+        let (mut taken, mut bytes) = (0, vec![]);
         let length = |bytes: &Vec<u8>| if log.is_some() { bytes.len() as u64 } else { 0 };
         let answer = loop {
             let ended = |ending, bytes: &Vec<u8>| [ending, 0, 0, 0, 0, taken as u64, length(bytes)];
@@ -209,7 +211,6 @@ impl Check<'_> {
             match &step.result {
                 Ok(records) => {
                     bytes.extend(bytes_of(records));
-                    write_cells(&mut cells, records);
                     taken += 1;
                 }
                 Err(_) => {
@@ -220,7 +221,7 @@ impl Check<'_> {
                 }
             }
         };
-        (answer, state, cells, bytes)
+        (answer, state, bytes)
     }
 
     /// Budgets: none, all, one less, one between, and no bound where the job ends by itself.
@@ -235,9 +236,9 @@ impl Check<'_> {
             let what = format!("run, budget {budget}");
             let mut both = start.clone();
             let answer = both.call(&what, |machine, by| machine.run(by, budget))?;
-            let (expected, state, cells, _) = self.run_to(budget, None);
+            let (expected, state, _) = self.run_to(budget, None);
             same(&what, ("oracle", &expected), ("library", &answer))?;
-            self.state(&what, state, &cells, &both)?;
+            self.state(&what, state, &both)?;
         }
         Ok(())
     }
@@ -245,7 +246,7 @@ impl Check<'_> {
     /// Logs: room for all, one byte less than a step needs at the start, and one between.
     fn traces(&self, start: &Both, random: &mut Random) -> Checked<()> {
         let budget = if self.report.end == End::Spent { self.report.steps } else { random.pick(&[u64::MAX, self.report.steps]) };
-        let all = self.run_to(budget, Some(usize::MAX)).3.len();
+        let all = self.run_to(budget, Some(usize::MAX)).2.len();
         for room in [all + STEP_BYTES, STEP_BYTES - 1, random.index(all + 2 * STEP_BYTES)] {
             let what = format!("trace_execution, budget {budget}, log of {room}");
             let filling = random.next() as u8;
@@ -254,11 +255,11 @@ impl Check<'_> {
                 let mut log = vec![filling; room];
                 (machine.trace_execution(by, budget, &mut log), log)
             })?;
-            let (expected, state, cells, mut bytes) = self.run_to(budget, Some(room));
+            let (expected, state, mut bytes) = self.run_to(budget, Some(room));
             same(&what, ("oracle", &expected), ("library", &answer))?;
             bytes.resize(room, filling);
             same(&format!("{what}, bytes"), ("oracle", &bytes), ("library", &log))?;
-            self.state(&what, state, &cells, &both)?;
+            self.state(&what, state, &both)?;
         }
         Ok(())
     }
@@ -290,17 +291,5 @@ fn answer_of(result: &Result<Vec<Record>, Refused>, steps: u64, bytes: usize) ->
     match result {
         Ok(_) => [ending::DONE, 0, 0, 0, 0, steps, bytes as u64],
         Err(Refused { number, words }) => [ending::REFUSED, *number, words[0], words[1], words[2], 0, 0],
-    }
-}
-
-/// A new address goes behind the last cell.
-pub fn write_cells(cells: &mut Vec<(u64, u64)>, records: &[Record]) {
-    for record in records {
-        if let &Record::Ram { address, value, write: true, .. } = record {
-            match cells.iter_mut().find(|cell| cell.0 == address) {
-                Some(cell) => cell.1 = value,
-                None => cells.push((address, value)),
-            }
-        }
     }
 }

@@ -1,11 +1,30 @@
-//! What a comparison met: steps by instruction, refusals by number.
+//! What a comparison met: steps by instruction, refusals by number, and where a step's words of RAM were.
+use crate::field::P;
 use crate::instructions::{decode, ALL};
-use crate::job::Job;
-use crate::oracle::{End, Report};
+use crate::job::{Job, Room};
+use crate::oracle::{End, Report, State};
+use kixombu::Record;
 use std::collections::BTreeMap;
 
 /// The refusals that a comparison has to meet.
 const NUMBERS: [u64; 23] = [2, 3, 4, 5, 10, 11, 12, 13, 14, 15, 16, 17, 18, 19, 20, 21, 22, 23, 30, 31, 32, 33, 34];
+
+/// What steps do with RAM that a comparison has to meet.
+const OF_RAM: [&str; 13] = [
+    "reads, all held",
+    "reads, all absent",
+    "reads, held and absent",
+    "reads across p - 1",
+    "writes, all held",
+    "writes, held and new",
+    "writes across p - 1",
+    "a new cell in front",
+    "a new cell between",
+    "a new cell behind",
+    "writes that fill RAM",
+    "writes to full RAM",
+    "refused, a cell left",
+];
 
 #[derive(Default)]
 pub struct Counts {
@@ -18,6 +37,7 @@ pub struct Counts {
     taken: BTreeMap<&'static str, u64>,
     refused: BTreeMap<&'static str, u64>,
     numbers: BTreeMap<u64, u64>,
+    of_ram: BTreeMap<&'static str, u64>,
 }
 
 impl Counts {
@@ -29,10 +49,11 @@ impl Counts {
         other.taken.iter().for_each(|(name, count)| *self.taken.entry(name).or_default() += count);
         other.refused.iter().for_each(|(name, count)| *self.refused.entry(name).or_default() += count);
         other.numbers.iter().for_each(|(number, count)| *self.numbers.entry(*number).or_default() += count);
+        other.of_ram.iter().for_each(|(name, count)| *self.of_ram.entry(name).or_default() += count);
     }
 
-    /// Counts what is compared of a job, the first time or with some slices short.
-    pub fn count(&mut self, job: &Job, report: &Report, is_first: bool) {
+    /// Counts what is compared of a job in a room, the first time or with some slices short.
+    pub fn count(&mut self, job: &Job, report: &Report, room: Room, is_first: bool) {
         self.jobs += is_first as u64;
         let Some(opened) = &report.opened else {
             if let End::Refused(number) = report.end {
@@ -40,24 +61,85 @@ impl Counts {
             }
             return;
         };
-        let mut pointer = opened.pointer;
+        let mut before = opened;
         for step in &report.tried {
-            let slot = usize::try_from(pointer).ok().and_then(|pointer| job.slots.get(pointer));
+            let slot = usize::try_from(before.pointer).ok().and_then(|pointer| job.slots.get(pointer));
             let name = slot.and_then(|slot| decode(slot.0)).map(|instruction| instruction.name);
             match &step.result {
-                Ok(_) => *self.taken.entry(name.unwrap()).or_default() += 1,
+                Ok(records) => {
+                    *self.taken.entry(name.unwrap()).or_default() += 1;
+                    self.count_ram(before, records, room.cells);
+                }
                 Err(refused) => {
                     *self.numbers.entry(refused.number).or_default() += 1;
                     name.into_iter().for_each(|name| *self.refused.entry(name).or_default() += 1);
+                    if refused.number == 32 && before.ram.len() < room.cells {
+                        self.note("refused, a cell left");
+                    }
                 }
             }
-            pointer = step.state.pointer;
+            before = &step.state;
         }
         let steps = report.tried.len() as u64;
         match (is_first, job.budget) {
             (false, _) => self.short += steps,
             (true, 1) => self.singles += steps,
             (true, _) => self.steps += steps,
+        }
+    }
+
+    fn note(&mut self, name: &'static str) {
+        *self.of_ram.entry(name).or_default() += 1;
+    }
+
+    /// Where the words of a step stand among the cells before it.
+    fn count_ram(&mut self, before: &State, records: &[Record], room: usize) {
+        let addresses = |wanted: bool| -> Vec<u64> {
+            let of_ram = records.iter().filter_map(|record| match *record {
+                Record::Ram { address, write, .. } if write == wanted => Some(address),
+                _ => None,
+            });
+            of_ram.collect()
+        };
+        let wraps = |addresses: &[u64]| addresses.contains(&0) && addresses.contains(&(P - 1));
+        let place = |address: &u64| before.ram.binary_search_by_key(address, |cell| cell.0);
+
+        let reads = addresses(false);
+        let held = reads.iter().filter(|address| place(address).is_ok()).count();
+        match (reads.len(), held) {
+            (0, _) => {}
+            (_, 0) => self.note("reads, all absent"),
+            (all, held) if all == held => self.note("reads, all held"),
+            _ => self.note("reads, held and absent"),
+        }
+        if wraps(&reads) {
+            self.note("reads across p - 1");
+        }
+
+        let writes = addresses(true);
+        let new: Vec<usize> = writes.iter().filter_map(|address| place(address).err()).collect();
+        match (writes.len(), new.len()) {
+            (0, _) => {}
+            (_, 0) => self.note("writes, all held"),
+            (all, new) if all == new => {}
+            _ => self.note("writes, held and new"),
+        }
+        if wraps(&writes) {
+            self.note("writes across p - 1");
+        }
+        let end = before.ram.len();
+        for place in new.iter().filter(|_| end > 0) {
+            self.note(match *place {
+                0 => "a new cell in front",
+                place if place == end => "a new cell behind",
+                _ => "a new cell between",
+            });
+        }
+        if !new.is_empty() && end + new.len() == room {
+            self.note("writes that fill RAM");
+        }
+        if !writes.is_empty() && end == room {
+            self.note("writes to full RAM");
         }
     }
 
@@ -69,16 +151,19 @@ impl Counts {
         }
         println!("{:<20}{:>12}", "number", "times");
         self.numbers.iter().for_each(|(number, count)| println!("{number:<20}{count:>12}"));
+        println!("{:<24}{:>8}", "RAM", "times");
+        self.of_ram.iter().for_each(|(name, count)| println!("{name:<24}{count:>8}"));
         println!(
             "{} jobs, {} steps, {} single steps; {} steps once more with less lent",
             self.jobs, self.steps, self.singles, self.short
         );
     }
 
-    /// Instructions never taken, and numbers never given.
+    /// Instructions never taken, numbers never given, and what was never done with RAM.
     pub fn missing(&self) -> Vec<String> {
         let instructions = ALL.iter().map(|instruction| instruction.name).filter(|name| !self.taken.contains_key(name));
         let numbers = NUMBERS.iter().filter(|number| !self.numbers.contains_key(number));
-        instructions.map(str::to_string).chain(numbers.map(u64::to_string)).collect()
+        let of_ram = OF_RAM.iter().filter(|name| !self.of_ram.contains_key(*name)).map(|name| format!("({name})"));
+        instructions.map(str::to_string).chain(numbers.map(u64::to_string)).chain(of_ram).collect()
     }
 }

@@ -12,10 +12,11 @@ pub struct Damaged {
 
 type Damage = Box<dyn Fn(&mut Damaged)>;
 
-/// One damage each, pairs of two numbers for their order, and words and counts at the edge of what is accepted.
+/// One damage each, pairs of two numbers for their order, words and counts at the edge of what is accepted, and writes to RAM.
 pub fn list() -> Vec<Damaged> {
-    let refused = || [lengths(), words(), opcodes(), arguments(), states()];
-    let singles: Vec<Damage> = refused().into_iter().flatten().chain(edges()).collect();
+    let fives = || orders().into_iter().chain(states()).collect();
+    let refused = || [lengths(), words(), opcodes(), arguments(), fives()];
+    let singles: Vec<Damage> = refused().into_iter().flatten().chain(edges()).chain(writes()).collect();
     let pairs = refused().map(|damages| damages.into_iter().step_by(7).collect::<Vec<_>>());
     let mut list = vec![sound()];
     list.extend(singles.iter().map(|damage| with(&[damage])));
@@ -50,7 +51,7 @@ fn sound() -> Damaged {
         op_stack: used(&(41..59).collect::<Vec<_>>(), 20),
         origins: used(&[61, 62], 3),
         destinations: used(&[63, 64], 3),
-        addresses: used(&[P - 1, 0, 71], 5),
+        addresses: used(&[0, 71, P - 1], 5),
         values: used(&[72, 73, 74], 5),
         output: used(&[81, 82], 4),
     };
@@ -137,7 +138,38 @@ fn arguments() -> Vec<Damage> {
         .collect()
 }
 
-/// Number 5: depth, counts and positions outside, unused words that are not 0, an address twice.
+/// Number 5: used cells of which one is not above the one before it.
+fn orders() -> Vec<Damage> {
+    let cells = |addresses: &'static [u64]| {
+        of_machine(move |machine| {
+            machine.registers[register::CELLS] = addresses.len() as u64;
+            machine.addresses[..addresses.len()].copy_from_slice(addresses);
+        })
+    };
+    let orders: [&[u64]; 17] = [
+        &[71, 0, P - 1],
+        &[0, 0, P - 1],
+        &[71, 71, P - 1],
+        &[0, P - 1, P - 1],
+        &[0, 71, 71],
+        &[0, 0, 0],
+        &[0, 71, 0],
+        &[0, 71, 70],
+        &[72, 71, P - 1],
+        &[0, P - 1, 71],
+        &[P - 1, 0, 71],
+        &[P - 1, 71, 0],
+        // all of what is lent, and as few as can be out of order
+        &[0, 1, 2, 3, 3],
+        &[1, 0, 2, 3, 4],
+        &[0, 1, 3, 2, 4],
+        &[7, 7],
+        &[1 << 32, (1 << 32) - 1],
+    ];
+    orders.map(cells).into()
+}
+
+/// Number 5: depth, counts and positions outside, unused words that are not 0.
 fn states() -> Vec<Damage> {
     let outside = [
         (register::DEPTH, 21),
@@ -153,8 +185,8 @@ fn states() -> Vec<Damage> {
     damages.push(put(0, register::JUMPS, 1));
     damages.extend([(6, 18), (6, 19), (7, 2), (8, 2)].map(|(slice, place)| put(slice, place, 1)));
     damages.push(put(6, 19, u64::MAX));
-    damages.extend([(0, 0), (2, 0), (1, 71)].map(|(place, address)| put(9, place, address)));
-    damages.extend([1, 2].map(|place| put(9, place, P - 1)));
+    // the fourth cell, which is not used, has 0
+    damages.push(put(0, register::CELLS, 4));
     damages
 }
 
@@ -162,7 +194,9 @@ fn states() -> Vec<Damage> {
 fn edges() -> Vec<Damage> {
     let mut damages: Vec<Damage> =
         [(9, 3), (9, 4), (10, 3), (11, 0), (11, 3)].map(|(slice, place)| put(slice, place, u64::MAX)).into();
-    damages.push(put(9, 4, P - 1));
+    // unused cells need not ascend, nor differ from used ones
+    damages.extend([(3, P - 1), (3, 71), (4, P - 1)].map(|(place, address)| put(9, place, address)));
+    damages.extend([0, 1, 2].map(|cells| put(0, register::CELLS, cells)));
     let full = [
         (register::DEPTH, 20),
         (register::JUMPS, 3),
@@ -174,7 +208,7 @@ fn edges() -> Vec<Damage> {
     damages.extend(full.map(|(place, n)| put(0, place, n)));
     damages.push(of_machine(|machine| {
         machine.registers[register::CELLS] = 5;
-        machine.addresses[3..].copy_from_slice(&[72, 73]);
+        machine.addresses.copy_from_slice(&[0, 71, 72, P - 2, P - 1]);
     }));
     damages.extend([3, 4].map(|slice| {
         of_machine(move |machine| {
@@ -183,4 +217,53 @@ fn edges() -> Vec<Damage> {
         })
     }));
     damages
+}
+
+/// Accepted, but for those that lack a cell: write_mem of so many words at an address, with so many cells of five unused. What is
+/// in the unused ones is no word, and stays but for the cells taken.
+fn writes() -> Vec<Damage> {
+    let writes = [
+        (1, 71, 2),
+        (1, 5, 2),
+        (1, 72, 2),
+        (1, P - 2, 2),
+        (2, 70, 2),
+        (2, 71, 1),
+        (2, 72, 2),
+        // around p, some of them held
+        (2, P - 1, 0),
+        (2, P - 2, 1),
+        (3, P - 2, 2),
+        (4, P - 2, 2),
+        // none held
+        (1, 0, 5),
+        (2, P - 1, 5),
+        (5, P - 2, 5),
+        (5, 70, 5),
+        // a cell too few
+        (1, 5, 0),
+        (2, 80, 1),
+        (3, 72, 2),
+        (3, P - 3, 1),
+        (5, P - 3, 2),
+    ];
+    let write = |(count, address, unused): (u64, u64, usize)| {
+        of_machine(move |machine| {
+            (machine.opcodes[0], machine.arguments[0]) = (11, count);
+            machine.op_stack = (41..41 + 22).collect();
+            machine.op_stack[21] = address;
+            machine.registers[register::DEPTH] = 22;
+            let used = 5 - unused;
+            machine.registers[register::CELLS] = used as u64;
+            let cells: &[u64] = match used {
+                3 => &[0, 71, P - 1],
+                4 => &[0, 71, 75, P - 1],
+                _ => &[0, 71, 75, 76, P - 1],
+            };
+            machine.addresses[..used].copy_from_slice(&cells[..used]);
+            machine.addresses[used..].fill(u64::MAX);
+            machine.values[used..].fill(P);
+        })
+    };
+    writes.map(write).into()
 }

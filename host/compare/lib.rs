@@ -1,5 +1,6 @@
 //! What the comparison, the fuzz runs and the benchmarks share: the library's calls, a model of document 01, random jobs, and
 //! the oracle's answers.
+pub mod cells;
 pub mod check;
 pub mod counts;
 pub mod damaged;

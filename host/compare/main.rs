@@ -1,11 +1,11 @@
 //! compare [SEED [STEPS [SINGLES]]]: random jobs and single steps on the oracle, the model and the library.
 //! compare SEED piece N: the N-th piece of work of that seed alone.
-use host::check::{check, least, limited, used, Difference};
+use host::check::{check, least, limited, ordered, used, Difference};
 use host::counts::Counts;
 use host::instructions::ALL;
 use host::job::{Job, Room};
 use host::oracle::{Oracle, Report};
-use host::programs::{program, wild};
+use host::programs::{program, remembering, wild};
 use host::random::Random;
 use host::states::{broken, single};
 use std::process::exit;
@@ -15,8 +15,13 @@ use std::time::Instant;
 
 /// The jobs of a piece: one of long jobs, and one of single steps, in turn.
 fn jobs_of(piece: u64, random: &mut Random) -> Vec<Job> {
-    if piece % 2 == 0 {
-        (0..30).map(|i| if i % 3 == 2 { wild(random) } else { program(random) }).collect()
+    if piece.is_multiple_of(2) {
+        let job = |i: usize| match i % 6 {
+            2 | 5 => wild(random),
+            4 => remembering(random),
+            _ => program(random),
+        };
+        (0..30).map(job).collect()
     } else {
         let singles = (0..23 * ALL.len()).map(|i| single(random, &ALL[i % ALL.len()]));
         let mut jobs: Vec<Job> = singles.collect();
@@ -35,9 +40,10 @@ fn compare_piece(seed: u64, piece: u64, oracle: &Oracle) -> Result<Counts, Strin
             return;
         }
         let job = &jobs[place];
+        let report = ordered(job, report);
         let mut compare = |report: Report, room: Room, is_first: bool, random: &mut Random| {
             let report = limited(report, room);
-            counts.count(job, &report, is_first);
+            counts.count(job, &report, room, is_first);
             check(job, &report, room, random).err().map(|difference| (place, room, difference))
         };
         let most = used(job, &report);

@@ -1,15 +1,18 @@
-//! Document 01's calls on plain Rust containers: an implementation of its own, written from the document and the facts of the
-//! instruction set, to compare with where no Rust answers (places A and D) and on every input of the fuzz run.
+//! The calls of documents 01 and 02 on plain Rust containers: an implementation of its own, written from the documents and the
+//! facts of the instruction set, to compare with where no Rust answers (places A and D) and on every input of the fuzz run.
 mod execute;
 mod helpers;
 mod place_a;
 pub mod replay;
+#[cfg(test)]
+mod tests;
 
 use crate::instructions::decode;
 use crate::lent::{answer, ending, register, Calls, Code, Memory, MemoryView, STEP_BYTES};
 use crate::tip5::State;
 use kixombu::{bytes_of, Record};
 use place_a::{place_a, Handed};
+use std::collections::BTreeMap;
 
 /// A refusal's number and the words that it carries.
 #[derive(Clone, Copy, Debug, PartialEq, Eq)]
@@ -30,7 +33,8 @@ pub struct Vm {
     halted: bool,
     stack: Vec<u64>,
     jumps: Vec<(u64, u64)>,
-    ram: Vec<(u64, u64)>,
+    /// By address, and so in order.
+    ram: BTreeMap<u64, u64>,
     output: Vec<u64>,
     publics: usize,
     secrets: usize,
@@ -60,15 +64,14 @@ impl Room {
 impl Vm {
     fn new(registers: &[u64], memory: MemoryView) -> Vm {
         let count = |place: usize| registers[place] as usize;
-        let pairs = |left: &[u64], right: &[u64], n: usize| left[..n].iter().copied().zip(right[..n].iter().copied()).collect();
         Vm {
             // below 2^32 by place A
             clock: registers[register::CLOCK] as u32,
             pointer: registers[register::POINTER],
             halted: registers[register::HALTED] == 1,
             stack: memory.op_stack[..count(register::DEPTH)].to_vec(),
-            jumps: pairs(memory.origins, memory.destinations, count(register::JUMPS)),
-            ram: pairs(memory.addresses, memory.values, count(register::CELLS)),
+            jumps: pairs(memory.origins, memory.destinations, count(register::JUMPS)).collect(),
+            ram: pairs(memory.addresses, memory.values, count(register::CELLS)).collect(),
             output: memory.output[..count(register::OUTPUTS)].to_vec(),
             publics: count(register::PUBLICS),
             secrets: count(register::SECRETS),
@@ -101,7 +104,7 @@ impl Vm {
             memory.origins[i] = origin;
             memory.destinations[i] = destination;
         }
-        for (i, &(address, value)) in self.ram.iter().enumerate() {
+        for (i, (&address, &value)) in self.ram.iter().enumerate() {
             memory.addresses[i] = address;
             memory.values[i] = value;
         }
@@ -169,6 +172,10 @@ impl Vm {
         let reads = (now..before).rev().map(|pointer| record(pointer, false, &self.stack));
         writes.chain(reads).collect()
     }
+}
+
+fn pairs<'a>(left: &'a [u64], right: &'a [u64], n: usize) -> impl Iterator<Item = (u64, u64)> + 'a {
+    left[..n].iter().copied().zip(right[..n].iter().copied())
 }
 
 /// The calls as the library has them.

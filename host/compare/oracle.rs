@@ -7,7 +7,7 @@ use std::path::{Path, PathBuf};
 use std::process::{exit, Command, Stdio};
 use std::str::{FromStr, SplitAsciiWhitespace};
 
-/// The state that the oracle prints. RAM is ascending by address.
+/// The state that the oracle prints, which has RAM's cells by address: the original keeps no order.
 #[derive(Clone, Debug, Default, PartialEq, Eq)]
 pub struct State {
     pub clock: u64,
@@ -115,7 +115,7 @@ impl Oracle {
             .map(|line| {
                 let mut words = line.split(' ');
                 let name = words.next().unwrap().to_string();
-                (name, words.last().unwrap().parse().unwrap())
+                (name, words.next_back().unwrap().parse().unwrap())
             })
             .collect()
     }
@@ -258,8 +258,6 @@ impl State {
         let pairs = |left: &[u64], right: &[u64], n: usize| -> Vec<(u64, u64)> {
             left[..n].iter().copied().zip(right[..n].iter().copied()).collect()
         };
-        let mut ram = pairs(&machine.addresses, &machine.values, count(register::CELLS));
-        ram.sort_unstable();
         let taken = [register::PUBLICS, register::SECRETS, register::DIGESTS];
         State {
             clock: r[register::CLOCK],
@@ -267,7 +265,7 @@ impl State {
             halted: r[register::HALTED] == 1,
             stack: machine.op_stack[..count(register::DEPTH)].to_vec(),
             jumps: pairs(&machine.origins, &machine.destinations, count(register::JUMPS)),
-            ram,
+            ram: pairs(&machine.addresses, &machine.values, count(register::CELLS)),
             output: machine.output[put_before..count(register::OUTPUTS)].to_vec(),
             taken: core::array::from_fn(|i| r[taken[i]] - taken_before[i]),
             sponge: if r[register::SPONGE_SET] == 1 { r[register::SPONGE..].to_vec() } else { vec![] },

@@ -1,11 +1,9 @@
 //! Random programs that run for long: gadgets that put down what they need, loops, functions, and now and then a fault.
+use crate::cells::{cells, cells_at, near, spread, BASES};
 use crate::field::{add, P};
 use crate::instructions::{named, Argument, ALL};
 use crate::job::{Job, Start};
 use crate::random::Random;
-
-/// Addresses around which programs use RAM; some wrap.
-const BASES: [u64; 6] = [0, 100, 1 << 32, P - 3, P - 12, 0x1234_5678_9abc];
 
 struct Builder<'a> {
     random: &'a mut Random,
@@ -110,31 +108,6 @@ pub fn argument(random: &mut Random, argument: Argument) -> u64 {
     }
 }
 
-/// Up to so many cells near the bases, in no order.
-pub fn cells(random: &mut Random, most: u64) -> Vec<(u64, u64)> {
-    cells_at(near, random, most)
-}
-
-pub fn cells_at(address: fn(&mut Random) -> u64, random: &mut Random, most: u64) -> Vec<(u64, u64)> {
-    let mut cells: Vec<(u64, u64)> = vec![];
-    for _ in 0..random.below(most + 1) {
-        let address = address(random);
-        if cells.iter().all(|cell| cell.0 != address) {
-            cells.push((address, random.word()));
-        }
-    }
-    cells
-}
-
-pub fn near(random: &mut Random) -> u64 {
-    add(random.pick(&BASES), random.below(14))
-}
-
-/// Of some eight hundred addresses.
-pub fn spread(random: &mut Random) -> u64 {
-    add(near(random), random.below(120))
-}
-
 impl Builder<'_> {
     fn emit(&mut self, name: &str, argument: u64) {
         let instruction = named(name);
@@ -223,7 +196,7 @@ impl Builder<'_> {
             }
         }
         // even ones are called by a counter in ST0, odd ones by two words compared
-        if function % 2 == 0 {
+        if function.is_multiple_of(2) {
             self.emit("addi", P - 1);
             self.emit("dup", 0);
             self.emit("skiz", 0);

@@ -1,9 +1,10 @@
 //! sample write FILE: a fixed list of single steps with the oracle's answers, for programs that have no oracle at hand.
 //! sample damaged FILE: a fixed list of damaged machines with the model's answers.
 //! sample check FILE: the first list read back, and each entry taken by the model and the library.
-use host::check::{least, limited, used, write_cells};
+use host::check::{least, limited, ordered, used};
 use host::damaged::{list, Damaged};
 use host::entries::{decode_all, encode_all, fits, most, Entry, Full};
+use host::field::P;
 use host::instructions::{Instruction, ALL};
 use host::job::{Before, Job, Room};
 use host::lent::{answer, register, Calls, Machine, LIBRARY, STEP_BYTES};
@@ -45,6 +46,7 @@ fn write(file: &str) {
     Oracle::new("sample").run(0, &jobs, |place, report| {
         let job = &jobs[place];
         let name = ALL.get(place / TRIED).map_or("broken", |instruction| instruction.name);
+        let report = ordered(job, report);
         let room = room(job, &report, &mut random);
         let report = limited(report, room);
         let entry = entry(job, &report, room, &mut random);
@@ -142,21 +144,19 @@ fn entry(job: &Job, report: &Report, room: Room, random: &mut Random) -> Entry {
         Ok(records) => (Refused { number: 0, words: [0; 3] }, &records[..]),
         Err(refused) => (refused.clone(), &[][..]),
     };
-    let mut cells = job.ram.clone();
-    write_cells(&mut cells, records);
-    let after = after(&start, &step.state, &cells, &before);
+    let after = after(&start, &step.state, &before);
     Entry { before: start, number, words, after, helpers: step.helpers, calls: bytes_of(records) }
 }
 
 /// The machine in the oracle's state.
-fn after(start: &Machine, state: &State, cells: &[(u64, u64)], before: &Before) -> Machine {
+fn after(start: &Machine, state: &State, before: &Before) -> Machine {
     let mut machine = start.clone();
     let r = &mut machine.registers;
     r[register::CLOCK] = state.clock;
     r[register::POINTER] = state.pointer;
     r[register::DEPTH] = state.stack.len() as u64;
     r[register::JUMPS] = state.jumps.len() as u64;
-    r[register::CELLS] = cells.len() as u64;
+    r[register::CELLS] = state.ram.len() as u64;
     r[register::OUTPUTS] = (before.output.len() + state.output.len()) as u64;
     r[register::PUBLICS] = before.public.len() as u64 + state.taken[0];
     r[register::SECRETS] = before.secret.len() as u64 + state.taken[1];
@@ -174,7 +174,7 @@ fn after(start: &Machine, state: &State, cells: &[(u64, u64)], before: &Before) 
         machine.origins[i] = origin;
         machine.destinations[i] = destination;
     }
-    for (i, &(address, value)) in cells.iter().enumerate() {
+    for (i, &(address, value)) in state.ram.iter().enumerate() {
         machine.addresses[i] = address;
         machine.values[i] = value;
     }
@@ -183,24 +183,26 @@ fn after(start: &Machine, state: &State, cells: &[(u64, u64)], before: &Before) 
     machine
 }
 
-/// How many entries there are of each instruction and number.
+/// How many entries there are of each instruction and number, and of write_mem by where its cells go.
 #[derive(Default)]
-struct Chosen(BTreeMap<(String, u64), usize>);
+struct Chosen(BTreeMap<(&'static str, u64, &'static str), usize>);
 
 impl Chosen {
     /// Whether a further entry of its kind is wanted.
-    fn takes(&mut self, name: &str, entry: &Entry) -> bool {
+    fn takes(&mut self, name: &'static str, entry: &Entry) -> bool {
         let number = entry.number;
         // a number of place B, and the clock's end, have nothing to do with the instruction, save 12 and skiz's 11
         let plain = matches!(number, 2..=5 | 10 | 34) || number == 11 && name != "skiz";
+        let goes = if number == 0 && name == "write_mem" { written(entry) } else { "" };
         let (kind, most) = match number {
-            0 => (name, if name == "broken" { 0 } else { 7 }),
+            0 if name == "broken" => (name, 0),
+            0 => (name, if goes.is_empty() { 7 } else { 4 }),
             _ if plain => ("any", if number == 2 { 16 } else { 6 }),
             12 | 30 => (name, 1),
             19 => (name, 8),
             _ => (name, 3),
         };
-        let count = self.0.entry((kind.to_string(), number)).or_default();
+        let count = self.0.entry((kind, number, goes)).or_default();
         *count += 1;
         if *count > most {
             *count = most;
@@ -211,12 +213,31 @@ impl Chosen {
 
     fn print(&self) {
         let mut by_number = BTreeMap::<u64, usize>::new();
-        self.0.iter().for_each(|((_, number), count)| *by_number.entry(*number).or_default() += count);
+        self.0.iter().for_each(|((_, number, _), count)| *by_number.entry(*number).or_default() += count);
         for (number, count) in by_number {
             println!("number {number:<4}{count:>5}");
         }
-        let least = ALL.iter().map(|instruction| self.0.get(&(instruction.name.to_string(), 0)).copied().unwrap_or(0)).min();
-        println!("each instruction taken at least {} times", least.unwrap());
+        let taken =
+            |name| self.0.iter().filter(|((kind, number, _), _)| (*kind, *number) == (name, 0)).map(|(_, count)| count).sum();
+        let least: usize = ALL.iter().map(|instruction| taken(instruction.name)).min().unwrap();
+        println!("each instruction taken at least {least} times");
+        let writes = self.0.iter().filter(|((_, _, goes), _)| !goes.is_empty());
+        writes.for_each(|((_, _, goes), count)| println!("write_mem, {goes:<28}{count:>5}"));
+    }
+}
+
+/// Where the cells of a write_mem go: the first of these that holds.
+fn written(entry: &Entry) -> &'static str {
+    let cells = |machine: &Machine| machine.addresses[..machine.registers[register::CELLS] as usize].to_vec();
+    let (before, after) = (cells(&entry.before), cells(&entry.after));
+    let wraps = |cells: &[u64]| cells.first() == Some(&0) && cells.last() == Some(&(P - 1));
+    match (before.first(), before.last()) {
+        _ if before.len() == after.len() => "all held",
+        _ if wraps(&after) && !wraps(&before) => "0 and p - 1",
+        (None, _) | (_, None) => "the first ones",
+        (Some(first), _) if after[0] < *first => "in front",
+        (_, Some(last)) if after.last().is_some_and(|new| new > last) => "behind",
+        _ => "between",
     }
 }
 

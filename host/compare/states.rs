@@ -1,9 +1,13 @@
 //! Single steps: one instruction on a state made for it, at the edges of what it takes.
+use crate::cells::{cells, disorder, near, put};
 use crate::field::{add, P};
 use crate::instructions::{decode, Instruction, ALL};
 use crate::job::{Job, Start};
-use crate::programs::{argument, cells, near};
+use crate::programs::argument;
 use crate::random::Random;
+
+/// Those that read or write RAM.
+pub const OF_RAM: [&str; 6] = ["read_mem", "write_mem", "sponge_absorb_mem", "merkle_step_mem", "xx_dot_step", "xb_dot_step"];
 
 /// A job of one step with the given instruction.
 pub fn single(random: &mut Random, instruction: &Instruction) -> Job {
@@ -21,7 +25,7 @@ pub fn single(random: &mut Random, instruction: &Instruction) -> Job {
     let mut stack = stack(random, instruction.deeper_by(given));
     operands(random, instruction, &mut stack);
     let mut ram = cells(random, 6);
-    cells_under(random, &stack, &mut ram);
+    cells_under(random, instruction, &stack, &mut ram);
     let mut jumps: Vec<(u64, u64)> = (0..inputs[3]).map(|_| (random.word(), random.word())).collect();
     if random.once_in(500) {
         make_large(random, &mut stack, &mut jumps, &mut ram);
@@ -58,8 +62,10 @@ fn make_large(random: &mut Random, stack: &mut Vec<u64>, jumps: &mut Vec<(u64, u
     let below = random.index(5000);
     stack.splice(0..0, random.words(below));
     (0..random.index(1000)).for_each(|_| jumps.insert(0, (random.word(), random.word())));
+    // before the cells that are there, or behind most of them
+    let base = random.pick(&[0x1000, 0xffff_0000_0000_0000]);
     for i in 0..random.below(1500) {
-        ram.insert(random.index(ram.len() + 1), (0xffff_0000_0000_0000 + i, random.word()));
+        put(ram, base + 2 * i, random.word());
     }
 }
 
@@ -113,15 +119,17 @@ fn operands(random: &mut Random, instruction: &Instruction, stack: &mut [u64]) {
     }
 }
 
-/// Cells at and around the addresses that stand on the stack.
-fn cells_under(random: &mut Random, stack: &[u64], ram: &mut Vec<(u64, u64)>) {
+/// Cells at and around the addresses that stand on the stack: some, or, where the instruction goes from one address to the next,
+/// all of them or all but one.
+fn cells_under(random: &mut Random, instruction: &Instruction, stack: &[u64], ram: &mut Vec<(u64, u64)>) {
     let top = stack.len() - 1;
     for place in [0, 1, 7] {
-        for _ in 0..random.index(6) {
-            let address = add(add(stack[top - place], random.below(14)), P - 4);
-            if ram.iter().all(|cell| cell.0 != address) {
-                ram.insert(random.index(ram.len() + 1), (address, random.word()));
-            }
+        let first = add(stack[top - place], P - 5);
+        if OF_RAM.contains(&instruction.name) && random.once_in(3) {
+            let gap = random.below(30);
+            (0..15).filter(|i| *i != gap).for_each(|i| put(ram, add(first, i), random.word()));
+        } else {
+            (0..random.index(6)).for_each(|_| put(ram, add(first, random.below(15)), random.word()));
         }
     }
 }
@@ -135,7 +143,7 @@ pub fn broken(random: &mut Random) -> Job {
     let large = random.too_large();
     let slot = random.index(job.slots.len());
     for _ in 0..random.between(1, 2) {
-        match random.below(10) {
+        match random.below(12) {
             0 if job.start.is_none() => job.digest[random.index(5)] = large,
             1 => job.slots[slot].1 = large,
             2 => job.public.push(large),
@@ -148,11 +156,18 @@ pub fn broken(random: &mut Random) -> Job {
                 let picked = random.pick(&ALL);
                 job.slots[slot] = (picked.opcode, random.pick(&[0, 1, 5, 6, 15, 16, P - 1]));
             }
-            _ => {
-                let address = job.ram.first().map_or(9, |cell| cell.0);
-                job.ram.extend([(address, 1), (address, 1)]);
-            }
+            _ => out_of_order(random, &mut job.ram),
         }
     }
     job
+}
+
+/// Two cells or more whose addresses do not ascend.
+fn out_of_order(random: &mut Random, ram: &mut Vec<(u64, u64)>) {
+    while ram.len() < 2 {
+        put(ram, near(random), random.word());
+    }
+    let mut addresses: Vec<u64> = ram.iter().map(|cell| cell.0).collect();
+    disorder(random, &mut addresses);
+    ram.iter_mut().zip(addresses).for_each(|(cell, address)| cell.0 = address);
 }

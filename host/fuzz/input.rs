@@ -1,12 +1,13 @@
 //! Inputs: any numbers in slices of any length, machines that place A accepts, and such machines damaged in one place.
+use host::cells::disorder;
 use host::check::least;
 use host::field::P;
-use host::instructions::ALL;
+use host::instructions::{named, ALL};
 use host::job::{Before, Job, Room};
 use host::lent::{answer, register, Machine, STEP_BYTES};
-use host::programs::{program, wild};
+use host::programs::{program, remembering, wild};
 use host::random::Random;
-use host::states::single;
+use host::states::{single, OF_RAM};
 
 #[derive(Clone, Copy, Debug, PartialEq, Eq)]
 pub enum Export {
@@ -109,8 +110,18 @@ fn number(random: &mut Random, small: bool) -> u64 {
 /// What place A accepts.
 fn sound(export: Export, random: &mut Random) -> Input {
     let job = match random.below(12) {
-        0 if matches!(export, Export::Run | Export::Trace) => program(random),
+        0 if matches!(export, Export::Run | Export::Trace) => {
+            if random.once_in(2) {
+                program(random)
+            } else {
+                remembering(random)
+            }
+        }
         0..3 => wild(random),
+        3..6 => {
+            let name = random.pick(&OF_RAM);
+            single(random, named(name))
+        }
         _ => {
             let instruction = random.pick(&ALL);
             single(random, &instruction)
@@ -151,7 +162,7 @@ fn room(job: &Job, steps: usize, random: &mut Random) -> Room {
     Room {
         stack: least.stack + more(10 * steps.min(20)),
         jumps: least.jumps + more(2),
-        cells: least.cells + more(6),
+        cells: least.cells + more(steps.clamp(6, 40)),
         output: least.output + more(6),
     }
 }
@@ -193,11 +204,10 @@ fn damage(input: &mut Input, random: &mut Random) {
             slices[pair + 1].resize(length, 0);
         }
         12 => {
-            let cells = &mut input.machine.addresses;
-            if let Some(&address) = cells.first() {
-                let place = random.index(cells.len());
-                cells[place] = address;
-            }
+            let count = if random.once_in(4) { input.cells } else { registers.get(register::CELLS).copied().unwrap_or(0) };
+            let addresses = &mut input.machine.addresses;
+            let used = addresses.len().min(count as usize);
+            disorder(random, &mut addresses[..used]);
         }
         13 => {
             if let Some(opcode) = pick_mut(&mut input.machine.opcodes, random) {

@@ -1,5 +1,6 @@
-//! The longest slices: one of the limit's length is taken, one longer is refused with 1.
+//! The longest slices: one of the limit's length is taken, one longer is refused with 1. And RAM of the limit's length, used up.
 use crate::by_record::BY_RECORD;
+use host::instructions::named;
 use host::lent::{answer, register, Machine, LIBRARY, LONGEST, STEP_BYTES};
 use host::model::MODEL;
 
@@ -27,6 +28,51 @@ pub fn check() {
     calls(&mut small(), LONGEST, 0);
     buffers(&mut small(), LONGEST + 1, 1);
     println!("slices of 16,777,216 elements are taken, longer ones refused");
+    full_ram();
+    println!("16,777,216 used cells are kept in order");
+}
+
+/// All cells used, or all but one. A model of so many would take long, and what a write must leave is plain.
+fn full_ram() {
+    let mut before = small();
+    (before.opcodes[0], before.arguments[0]) = (named("write_mem").opcode, 1);
+    before.op_stack.push(0);
+    before.registers[register::DEPTH] = 17;
+    before.registers[register::CELLS] = LONGEST as u64;
+    before.addresses = (1..=LONGEST as u64).map(|i| 2 * i).collect();
+    before.values = (1..=LONGEST as u64).collect();
+    let last = 2 * LONGEST as u64;
+    assert_eq!(write(&mut before, 1).0, 32);
+    let (number, after) = write(&mut before, last);
+    assert_eq!((number, after.values[LONGEST - 1]), (0, 7));
+    assert!(after.addresses == before.addresses && after.values[..LONGEST - 1] == before.values[..LONGEST - 1]);
+
+    // one cell left, for a new one in front, in the middle and behind
+    before.registers[register::CELLS] -= 1;
+    for place in [0, LONGEST / 2, LONGEST - 1] {
+        let address = 2 * place as u64 + 1;
+        let (number, after) = write(&mut before, address);
+        assert_eq!((number, after.registers[register::CELLS]), (0, LONGEST as u64));
+        for (now, then, new) in [(&after.addresses, &before.addresses, address), (&after.values, &before.values, 7)] {
+            assert!(now[..place] == then[..place] && now[place] == new && now[place + 1..] == then[place..LONGEST - 1]);
+        }
+    }
+
+    // neighbours that are equal or fall, at either end
+    for (place, address) in [(0, 4), (1, 1), (LONGEST - 2, last - 4), (LONGEST - 2, last - 5)] {
+        let then = std::mem::replace(&mut before.addresses[place], address);
+        assert_eq!(write(&mut before, 1).0, 5);
+        before.addresses[place] = then;
+    }
+}
+
+/// 7 written to an address, by the library: the number, and what it leaves.
+fn write(before: &mut Machine, address: u64) -> (u64, Machine) {
+    before.op_stack[15..].copy_from_slice(&[7, address]);
+    let mut machine = before.clone();
+    let number = machine.step(&LIBRARY, &mut [0; STEP_BYTES])[answer::NUMBER];
+    assert!(number == 0 || machine == *before, "refused with {number}, and something is changed");
+    (number, machine)
 }
 
 /// halt, with nothing else.

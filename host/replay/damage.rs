@@ -1,10 +1,12 @@
 //! Sound logs, and logs and lent slices damaged in a place or a few.
 use crate::lent::Lent;
-use host::field::P;
-use host::programs::{cells, cells_at, near, program, remembering, spread};
+use host::cells::{cells, cells_at, disorder, near, spread};
+use host::field::{add, sub, P};
+use host::programs::{program, remembering};
 use host::random::Random;
 use kixombu::exports::replayed;
 use kixombu::{bytes_of, records, Job, Record, Sizes};
+use std::collections::{BTreeMap, BTreeSet};
 
 /// A sound log, and what it needs.
 pub struct Base {
@@ -42,13 +44,16 @@ impl Base {
         let is_long = random.once_in(20);
         let (most_cells, most_records) = if is_long { (300, 2_000) } else { (8, 120) };
         let ram = if is_long { cells_at(spread, random, most_cells) } else { cells(random, most_cells) };
-        let (mut held, mut stack, mut all) = (ram.clone(), vec![], vec![]);
-        let mut clock = 0;
+        let mut held: BTreeMap<u64, u64> = ram.iter().copied().collect();
+        let mut known: Vec<u64> = held.keys().copied().collect();
+        let mut next_address = walk(random, is_long);
+        let (mut stack, mut all, mut clock) = (vec![], vec![], 0);
         for _ in 0..random.between(1, most_records) {
             clock += random.below(3) as u32;
             let pointer = stack.len() as u64 + 16;
-            let (address, value) = (if is_long { spread(random) } else { near(random) }, random.word());
-            let cell = held.iter_mut().find(|cell| cell.0 == address);
+            let again = !known.is_empty() && random.once_in(4);
+            let address = if again { random.pick(&known) } else { next_address(random) };
+            let value = random.word();
             all.push(match (random.below(4), stack.last().copied()) {
                 (0, Some(value)) => {
                     stack.pop();
@@ -58,11 +63,10 @@ impl Base {
                     stack.push(value);
                     Record::Stack { clock, pointer, write: true, value }
                 }
-                (2, _) => Record::Ram { clock, address, value: cell.map_or(0, |cell| cell.1), write: false },
+                (2, _) => Record::Ram { clock, address, value: held.get(&address).copied().unwrap_or(0), write: false },
                 _ => {
-                    match cell {
-                        Some(cell) => cell.1 = value,
-                        None => held.push((address, value)),
+                    if held.insert(address, value).is_none() {
+                        known.push(address);
                     }
                     Record::Ram { clock, address, value, write: true }
                 }
@@ -72,7 +76,7 @@ impl Base {
     }
 
     fn measured(log: Vec<u8>, ram: Vec<(u64, u64)>) -> Base {
-        let mut held: Vec<u64> = ram.iter().map(|cell| cell.0).collect();
+        let mut held: BTreeSet<u64> = ram.iter().map(|cell| cell.0).collect();
         let (mut words, mut last_clock) = (0, 0);
         for record in records(&log) {
             match record.expect("the log is sound") {
@@ -81,8 +85,8 @@ impl Base {
                     last_clock = clock.into();
                 }
                 Record::Ram { clock, address, write, .. } => {
-                    if write && !held.contains(&address) {
-                        held.push(address);
+                    if write {
+                        held.insert(address);
                     }
                     last_clock = clock.into();
                 }
@@ -92,9 +96,12 @@ impl Base {
         Base { log, ram, words, cells: held.len(), last_clock }
     }
 
-    /// Just what the log needs, or a little more, and the whole log or a part of it to be read.
+    /// Just what the log needs, or a little more, or a cell too few, and the whole log or a part of it to be read.
     fn lent(&self, random: &mut Random) -> Lent {
-        let (cells, words) = (self.cells + random.index(3), self.words + random.index(3));
+        let (mut cells, words) = (self.cells + random.index(3), self.words + random.index(3));
+        if self.cells > self.ram.len() && random.once_in(8) {
+            cells = self.cells - 1;
+        }
         // unused cells may hold anything, numbers that are no words too
         let any = |random: &mut Random| if random.once_in(4) { random.too_large() } else { random.next() };
         let mut some = |n: usize| -> Vec<u64> { (0..n).map(|_| any(random)).collect() };
@@ -109,6 +116,25 @@ impl Base {
             _ => random.pick(&[u64::MAX, self.last_clock + 1]),
         };
         Lent { answer, clock, cells: self.ram.len() as u64, addresses, values, words: vec![0; words] }
+    }
+}
+
+/// A log's addresses: near one another, one above or below the other, around p too, or anywhere.
+fn walk(random: &mut Random, is_long: bool) -> impl FnMut(&mut Random) -> u64 {
+    let (way, stride) = (random.below(6), random.pick(&[1, 1, 2, 1 << 32]));
+    let mut at = near(random);
+    move |random| match way {
+        0 => {
+            at = add(at, stride);
+            at
+        }
+        1 => {
+            at = sub(at, stride);
+            at
+        }
+        2 => random.below(P),
+        _ if is_long => spread(random),
+        _ => near(random),
     }
 }
 
@@ -253,9 +279,8 @@ fn damage_lent(lent: &mut Lent, random: &mut Random) {
         4 => pick_mut(&mut lent.addresses, random).into_iter().for_each(|word| *word = random.too_large()),
         5 => pick_mut(&mut lent.values, random).into_iter().for_each(|word| *word = random.too_large()),
         6 => {
-            if let (Some(&address), true) = (lent.addresses.first(), cells > 1) {
-                lent.addresses[random.index(cells)] = address;
-            }
+            let used = cells.min(lent.cells as usize);
+            disorder(random, &mut lent.addresses[..used]);
         }
         7 => lent.addresses.truncate(random.index(cells + 1)),
         8 => lent.values.push(0),

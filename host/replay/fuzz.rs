@@ -11,12 +11,14 @@ pub const PIECE: u64 = 20_000;
 const BASES: usize = 40;
 
 /// What a run has to meet.
-pub const KINDS: [&str; 11] = [
+pub const KINDS: [&str; 13] = [
     "replayed whole",
     "replayed to a clock",
     "refused with 1",
     "refused with 2",
     "refused with 5",
+    "refused with 5, an address twice",
+    "refused with 5, addresses fall",
     "refused with 40",
     "refused with 41",
     "refused with 42",
@@ -62,12 +64,23 @@ fn kind(number: u64, lent: &Lent) -> &'static str {
         0 => "replayed to a clock",
         1 => "refused with 1",
         2 => "refused with 2",
-        5 => "refused with 5",
+        5 => neighbours(lent),
         40 => "refused with 40",
         41 => "refused with 41",
         42 => "refused with 42",
         43 => "refused with 43",
         44 => "refused with 44",
         _ => "refused with a number that is not replay's",
+    }
+}
+
+/// What is wrong with the used cells' order, if that is why.
+fn neighbours(lent: &Lent) -> &'static str {
+    let used = lent.addresses.len().min(lent.cells as usize);
+    let pairs = || lent.addresses[..used].windows(2);
+    match () {
+        () if pairs().any(|pair| pair[0] > pair[1]) => "refused with 5, addresses fall",
+        () if pairs().any(|pair| pair[0] == pair[1]) => "refused with 5, an address twice",
+        () => "refused with 5",
     }
 }

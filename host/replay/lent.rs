@@ -53,7 +53,7 @@ impl Arena {
                 return Err(format!("{name}: a guard was written to"));
             }
             if !guarded.holds(slice) {
-                return Err(format!("{name}: {:?} instead of {slice:?}", guarded.inside()));
+                return Err(format!("{name}: {}", difference(guarded.inside(), slice)));
             }
         }
         if !self.log.is_intact() || !self.log.holds(log) {
@@ -61,4 +61,15 @@ impl Arena {
         }
         Ok(())
     }
+}
+
+/// Both slices, or where long ones first differ.
+fn difference(found: &[u64], expected: &[u64]) -> String {
+    const SHORT: usize = 500;
+    if expected.len() <= SHORT {
+        return format!("{found:?} instead of {expected:?}");
+    }
+    let place = found.iter().zip(expected).take_while(|(found, expected)| found == expected).count();
+    let around = |slice: &[u64]| format!("{:?}", &slice[place.saturating_sub(2)..slice.len().min(place + 5)]);
+    format!("around place {place} of {}, {} instead of {}", expected.len(), around(found), around(expected))
 }

@@ -1,7 +1,6 @@
 //! Logs of the original Rust (`oracle log`) for random jobs, replayed to their clocks: depth, cells and stack are the Rust's after
 //! so many steps; and with each read altered, which is refused.
 use crate::lent::{Arena, Lent};
-use host::check::write_cells;
 use host::field::P;
 use host::job::Job;
 use host::model::replay::replay as model;
@@ -21,18 +20,22 @@ const SOME: usize = 60;
 const READS: usize = 500;
 
 /// What a run has to meet.
-pub const KINDS: [&str; 11] = [
+pub const KINDS: [&str; 15] = [
     "jobs",
     "jobs to every clock",
     "stack writes",
     "stack reads",
-    "RAM writes to new cells",
+    "RAM writes, the first cell",
+    "RAM writes, a new cell in front",
+    "RAM writes, a new cell between",
+    "RAM writes, a new cell behind",
     "RAM writes to held cells",
     "RAM reads",
     "RAM reads of absent addresses",
     "altered reads refused with 40",
     "altered reads refused with 43",
     "altered reads behind the stop",
+    "a cell too few, refused with 44",
 ];
 
 pub struct Logs {
@@ -67,10 +70,8 @@ impl Logs {
 struct Checked {
     log: Vec<u8>,
     records: Vec<Record>,
-    /// The Rust's states: the opening, then what each step left.
+    /// The Rust's states: the opening, then what each step left. Their cells are by address.
     states: Vec<State>,
-    /// The cells in order at each of them.
-    cells: Vec<Vec<(u64, u64)>>,
     /// As it is lent at each call.
     lent: Lent,
     arena: Arena,
@@ -80,12 +81,9 @@ struct Checked {
 impl Checked {
     fn new(job: &Job, report: &Report, log: Vec<u8>, random: &mut Random) -> Result<Checked, String> {
         let opened = report.opened.clone().expect("a job of a random program opens");
-        let (mut states, mut cells, mut steps) = (vec![opened], vec![job.ram.clone()], vec![]);
+        let (mut states, mut steps) = (vec![opened], vec![]);
         for step in &report.tried {
             if let Ok(records) = &step.result {
-                let mut now = cells.last().unwrap().clone();
-                write_cells(&mut now, records);
-                cells.push(now);
                 states.push(step.state.clone());
                 steps.extend(records.clone());
             }
@@ -94,10 +92,10 @@ impl Checked {
             return Err("the oracle's log is not its calls' bytes".to_string());
         }
         let deepest = states.iter().map(|state| state.stack.len()).max().unwrap();
-        let most = cells.last().unwrap().len();
+        let most = states.last().unwrap().ram.len();
         let lent = lent(&job.ram, most + random.index(3), deepest - 16 + random.pick(&[0, 1, 16]), random);
         let arena = Arena::new(random.next());
-        Ok(Checked { log, records: steps, states, cells, lent, arena, calls: 0 })
+        Ok(Checked { log, records: steps, states, lent, arena, calls: 0 })
     }
 
     fn check(&mut self, counts: &mut Counts<&'static str>, random: &mut Random, watched: &Watched) -> Result<(), String> {
@@ -114,6 +112,7 @@ impl Checked {
             self.replay_to(clock, watched)?;
             *counts.entry("replays").or_default() += 1;
         }
+        self.one_cell_short(counts, watched)?;
         self.altered(counts, random, watched)
     }
 
@@ -121,22 +120,25 @@ impl Checked {
         let mut add = |name, more: u64| *counts.entry(name).or_default() += more;
         add("jobs", 1);
         add("bytes of logs", self.log.len() as u64);
-        let mut held: Vec<u64> = self.cells[0].iter().map(|cell| cell.0).collect();
+        let mut held: Vec<u64> = self.states[0].ram.iter().map(|cell| cell.0).collect();
         for record in &self.records {
             match *record {
                 Record::Stack { write, .. } => add(if write { "stack writes" } else { "stack reads" }, 1),
-                Record::Ram { address, write, .. } => {
-                    let is_held = held.contains(&address);
-                    match (write, is_held) {
-                        (true, true) => add("RAM writes to held cells", 1),
-                        (true, false) => add("RAM writes to new cells", 1),
-                        (false, true) => add("RAM reads", 1),
-                        (false, false) => add("RAM reads of absent addresses", 1),
+                Record::Ram { address, write, .. } => match (write, held.binary_search(&address)) {
+                    (true, Ok(_)) => add("RAM writes to held cells", 1),
+                    (true, Err(place)) => {
+                        let name = match (place, held.len()) {
+                            (_, 0) => "RAM writes, the first cell",
+                            (0, _) => "RAM writes, a new cell in front",
+                            (place, end) if place == end => "RAM writes, a new cell behind",
+                            _ => "RAM writes, a new cell between",
+                        };
+                        add(name, 1);
+                        held.insert(place, address);
                     }
-                    if write && !is_held {
-                        held.push(address);
-                    }
-                }
+                    (false, Ok(_)) => add("RAM reads", 1),
+                    (false, Err(_)) => add("RAM reads of absent addresses", 1),
+                },
                 _ => add("records only measured", 1),
             }
         }
@@ -145,13 +147,13 @@ impl Checked {
     /// What the Rust's state after so many steps, or after all, makes of what is lent.
     fn expected(&self, clock: u64) -> Lent {
         let place = usize::try_from(clock).unwrap_or(usize::MAX).min(self.states.len() - 1);
-        let (state, cells) = (&self.states[place], &self.cells[place]);
+        let state = &self.states[place];
         let mut expected = self.lent.clone();
         expected.clock = clock;
-        expected.answer = vec![0, state.stack.len() as u64, cells.len() as u64];
+        expected.answer = vec![0, state.stack.len() as u64, state.ram.len() as u64];
         let below = state.stack.len() - 16;
         expected.words[..below].copy_from_slice(&state.stack[..below]);
-        for (i, &(address, value)) in cells.iter().enumerate() {
+        for (i, &(address, value)) in state.ram.iter().enumerate() {
             expected.addresses[i] = address;
             expected.values[i] = value;
         }
@@ -170,16 +172,28 @@ impl Checked {
 
     fn replay_to(&mut self, clock: u64, watched: &Watched) -> Result<(), String> {
         let expected = self.expected(clock);
-        // the Rust keeps no order of cells: the order is that of its writes, the cells are its own
-        let place = usize::try_from(clock).unwrap_or(usize::MAX).min(self.states.len() - 1);
-        let mut sorted = self.cells[place].clone();
-        sorted.sort_unstable();
-        assert_eq!(sorted, self.states[place].ram, "the cells by the oracle's writes are the oracle's");
         let mut by_model = Lent { clock, ..self.lent.clone() };
         if by_model.replay(model, &self.log) != 0 || by_model != expected {
             return Err(format!("clock {clock}: the model differs from the Rust"));
         }
         self.call(clock, (0, &expected), watched)
+    }
+
+    /// The whole log where the last of its new cells has no room.
+    fn one_cell_short(&mut self, counts: &mut Counts<&'static str>, watched: &Watched) -> Result<(), String> {
+        let most = self.states.last().unwrap().ram.len();
+        if most == self.states[0].ram.len() {
+            return Ok(());
+        }
+        let mut short = self.lent.clone();
+        short.addresses.truncate(most - 1);
+        short.values.truncate(most - 1);
+        let whole = std::mem::replace(&mut self.lent, short);
+        let expected = Lent { answer: vec![44, 0, 0], ..self.lent.clone() };
+        let found = self.call(u64::MAX, (44, &expected), watched).map_err(|text| format!("a cell too few, {text}"));
+        self.lent = whole;
+        *counts.entry("a cell too few, refused with 44").or_default() += 1;
+        found
     }
 
     /// Each read altered in turn, or some: to another word and to no word, seen behind its clock and not seen before it.

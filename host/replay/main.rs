@@ -1,10 +1,12 @@
 //! replay logs [JOBS [SEED]]: logs that the original Rust wrote, replayed by the library to every clock.
-//! replay fuzz [CALLS [SEED]]: damaged logs, between guards, held to the model.
+//! replay fuzz [CALLS [SEED]]: damaged logs, between guards, held to the model; first, long slices and the logs of `large`.
+//! replay large: logs of many addresses, between guards, held to the model.
 //! replay bench: nanoseconds a record beside a plain Rust replay.
 //! replay logs|fuzz piece N SEED: one piece of that work again.
 mod bench;
 mod damage;
 mod fuzz;
+mod large;
 mod lengths;
 mod lent;
 mod logs;
@@ -24,9 +26,13 @@ fn main() {
             run("logs", words, 1_000, logs::PIECE, &logs::KINDS, &|seed, piece, watched| logs.piece(seed, piece, watched))
         }
         ["fuzz", ref words @ ..] => {
-            lengths::check();
+            if words.first() != Some(&"piece") {
+                lengths::check();
+                large::check().unwrap_or_else(|text| fail(&text));
+            }
             run("fuzz", words, 10_000_000, fuzz::PIECE, &fuzz::KINDS, &fuzz::piece)
         }
+        ["large"] => large::check(),
         ["bench"] => {
             bench::run();
             Ok(())
@@ -70,6 +76,6 @@ fn print(counts: &Counts<&'static str>) {
 }
 
 fn usage() -> ! {
-    eprintln!("replay logs [JOBS [SEED]]\nreplay fuzz [CALLS [SEED]]\nreplay bench\nreplay logs|fuzz piece N SEED");
+    eprintln!("replay logs [JOBS [SEED]]\nreplay fuzz [CALLS [SEED]]\nreplay large\nreplay bench\nreplay logs|fuzz piece N SEED");
     exit(2)
 }

@@ -118,8 +118,7 @@ plain-reliable {s} {o} {a} h =
       pointer = m .pointer;
       public = m .publics;
       secret = m .secrets;
-      addresses = m .cells .used;
-      values = omega (arith, m .cells .used, m .cells .pair);
+      usable = record { ordered = record { within = m .cells .used; ascending = m .cells .ascending }; values = omega (arith, m .cells .used, m .cells .pair) };
       heldWords = m .cells .values;
       argument = words-getD (s .pointer) (m .code .arguments);
       allowed = argument-at o a (length o) (s .pointer) (h .inside) (m .code .allowed);
@@ -141,8 +140,7 @@ hash-reliable {s} h =
     record {
       words = top-words (s .depth) (m .opStack .words);
       digests = m .digests;
-      addresses = m .cells .used;
-      values = omega (arith, m .cells .used, m .cells .pair);
+      usable = record { ordered = record { within = m .cells .used; ascending = m .cells .ascending }; values = omega (arith, m .cells .used, m .cells .pair) };
       hashing = h .hashing;
     }
 

@@ -2,7 +2,7 @@
 -- definition. Assumes nothing.
 use mathlib.Core.Path.{_≡_, refl, sym, ap, _∙_}
 use mathlib.Core.Bool.{Bool, true, false}
-use mathlib.Core.List.{List, _++_, append-assoc}
+use mathlib.Core.List.{List, [], _++_, append-assoc}
 use mathlib.Core.Logic.{_⊎_, inl, inr, ⊎-elim}
 use Prim.Native.Nat.{ℕ, zero, suc, _+_, _-_, _≤_, _<_, min}
 use native.Mathlib.Numerals.{add-one}
@@ -21,7 +21,7 @@ use Rattle.machine.specs.EffectView.{u32sOf, accessesFrom, readsFrom, writesFro
 use Rattle.machine.specs.Apply.{touched, jumpsAfter, limitsOf}
 use Rattle.inner_step.specs.PerformView.{jumpsBy, amongOf, hasIn, newOf, freshOf}
 use Rattle.machine.proofs.Choice.{above-is, above-not}
-use Rattle.machine.proofs.RamLaws.{stored-count, stored-more, has-stored}
+use Rattle.machine.proofs.RamLaws.{has-addresses, stored-count, stored-more, has-stored}
 use Rattle.machine.proofs.Touched.{touched-addresses, touched-values}
 
 -- ---- whether an address is among those of the writes before
@@ -38,8 +38,8 @@ module _ (w : List ℕ) (i n a : ℕ) where
 -- ---- whether an address has a cell
 
 pub has-in : (c : Cells) (a : ℕ) → has c a ≡ hasIn (c .addresses) (c .count) a
-unfolding has find hasIn
-has-in c a = refl
+unfolding hasIn
+has-in c a = has-addresses c [] a
 
 pub in-at : (c : Cells) (a i : ℕ) → at i ≡ find c a → hasIn (c .addresses) (c .count) a ≡ true
 unfolding has

@@ -17,7 +17,7 @@ use Rattle.machine.specs.declared.hashing.Hashed.{Hashed}
 use Rattle.machine.specs.Choice.{cond}
 use Rattle.machine.specs.Copied.{copied}
 use Rattle.machine.specs.Ram.{Cells, cells, stored}
-use Rattle.machine.specs.RamView.{Room}
+use Rattle.machine.specs.RamView.{Ordered, Room}
 use Rattle.machine.specs.Machine.{Memory, memory, Machine, ram}
 use Rattle.machine.specs.Effect.{Call, reset, tip5, u32, ramRead, ramWrite, stays, pushes, pops, SpongeChange, keeps, becomes, Effect}
 use Rattle.machine.specs.EffectView.{u32sOf, accessesFrom, readsFrom, writesFrom, jumpOf, effectOf}
@@ -52,14 +52,14 @@ module _ (a v : List ℕ) (k n : ℕ) where
     pub writes-turn : (d : Cells) {r : Cells} → touched c (writesFrom a v (k + i) (n - i)) ≡ d → r ≡ stored c (getD a (k + i) 0) (getD v (k + i) 0) → touched r (writesFrom a v (k + (i + 1)) (n - (i + 1))) ≡ d
     writes-turn d q e = rw e (sym next-write ∙ q)
 
-    pub writes-room : (d : Cells) → touched c (writesFrom a v (k + i) (n - i)) ≡ d → length (c .addresses) ≡ length (c .values) → d .count ≤ length (c .addresses) →
+    pub writes-room : (d : Cells) → touched c (writesFrom a v (k + i) (n - i)) ≡ d → Ordered (c .addresses) (c .count) → length (c .addresses) ≡ length (c .values) → d .count ≤ length (c .addresses) →
         Room c (getD a (k + i) 0) (getD v (k + i) 0)
-    writes-room d q pair fits =
+    writes-room d q o pair fits =
         let w = writesFrom a v (k + (i + 1)) (n - (i + 1)) in
         let x = stored c (getD a (k + i) 0) (getD v (k + i) 0) in
         let e : touched x w .count ≡ d .count = ap (λ (z : Cells). z .count) (sym next-write ∙ q) in
         record {
-          used = omega (arith, e, touched-more (writesFrom a v (k + i) (n - i)) c, ap (λ (z : Cells). z .count) q);
+          ordered = o;
           pair = pair;
           fits = omega (arith, e, touched-more w x);
         }
@@ -210,7 +210,7 @@ fit-of m e s p n = record {
   stackFew = s .opStack .few;
   jumps = s .origins .used;
   jumpsFew = s .origins .few;
-  used = s .cells .used;
+  ordered = record { within = s .cells .used; ascending = s .cells .ascending };
   pair = s .cells .pair;
   cellsFew = s .cells .few;
   written = s .outputs;
@@ -236,7 +236,7 @@ ready-of m e change cs s f n l =
       depth = s .opStack .used;
       deeper = g .depth;
       writes = record {
-        used = s .cells .used;
+        ordered = record { within = s .cells .used; ascending = s .cells .ascending };
         pair = s .cells .pair;
         fits = rw (← writes-touch e (ram m)) (g .cells);
         few = n;

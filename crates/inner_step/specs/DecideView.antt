@@ -13,6 +13,7 @@ use Rattle.machine.specs.declared.hashing.Hashed.{Hashed}
 use Rattle.machine.specs.Choice.{cond}
 use Rattle.machine.specs.Words.{Words}
 use Rattle.machine.specs.Ram.{Cells}
+use Rattle.machine.specs.RamView.{Usable}
 use Rattle.machine.specs.Refusal.{plainly}
 use Rattle.machine.specs.Instruction.{Instruction, Row, Decoded, known, unknown, decode}
 use Rattle.machine.specs.Machine.{Machine, machine, code, memory, JumpTop, ram, jumpTop, publicLeft, secretLeft, digestsLeft}
@@ -61,8 +62,7 @@ pub record Reliable (h : Handed) : Type 0 where
   pub pointer : h .pointer < p
   pub public : h .publics ≤ length (h .public)
   pub secret : h .secrets ≤ length (h .secret)
-  pub addresses : h .cells .count ≤ length (h .cells .addresses)
-  pub values : h .cells .count ≤ length (h .cells .values)
+  pub usable : Usable (h .cells)
   pub heldWords : Words (take (h .cells .count) (h .cells .values))
   pub argument : h .argument < p
   pub allowed : argument4 (decode (h .opcode)) (h .argument) ≡ 0
@@ -102,8 +102,7 @@ handedHash op w s d n c = record { opcode = op; top = w; sponge = s; digests = d
 pub record ReliableHash (h : HandedHash) : Type 0 where
   pub words : Words (h .top)
   pub digests : 5 * h .taken ≤ length (h .digests)
-  pub addresses : h .cells .count ≤ length (h .cells .addresses)
-  pub values : h .cells .count ≤ length (h .cells .values)
+  pub usable : Usable (h .cells)
   pub hashing : hashes (h .opcode) ≡ true
 
 pub record ShowsHash (m : Machine) (h : HandedHash) : Type 0 where

@@ -10,6 +10,7 @@ use Rattle.machine.specs.declared.state.VMState.{VMState}
 use Rattle.machine.specs.declared.effect.Effect.{Effect as Arrays}
 use Rattle.machine.specs.Choice.{cond}
 use Rattle.machine.specs.Ram.{Cells, cells, has}
+use Rattle.machine.specs.RamView.{Ordered}
 use Rattle.machine.specs.Machine.{Code, Memory, machine, memory}
 use Rattle.machine.specs.EffectView.{effectOf, writesFrom}
 use Rattle.machine.specs.Apply.{touched, limitsOf, performedAt, dropped}
@@ -51,7 +52,7 @@ pub record Fit (s : VMState) (e : Arrays) (m : Memory) : Type 0 where
   pub stackFew : length (m .opStack) ≤ longest
   pub jumps : s .jumps ≤ length (m .origins)
   pub jumpsFew : length (m .origins) ≤ longest
-  pub used : s .cells ≤ length (m .addresses)
+  pub ordered : Ordered (m .addresses) (s .cells)
   pub pair : length (m .addresses) ≡ length (m .values)
   pub cellsFew : length (m .addresses) ≤ longest
   pub written : s .outputs ≤ length (m .output)
@@ -66,7 +67,7 @@ pub record Limited (s : VMState) (e : Arrays) (m : Memory) (r : ℕ) : Type 0 wh
 
 -- a row of writes that has room
 pub record Writes (c : Cells) (a v : List ℕ) (i n : ℕ) : Type 0 where
-  pub used : c .count ≤ length (c .addresses)
+  pub ordered : Ordered (c .addresses) (c .count)
   pub pair : length (c .addresses) ≡ length (c .values)
   pub fits : touched c (writesFrom a v i n) .count ≤ length (c .addresses)
   pub few : i + n ≤ 10

@@ -2,6 +2,7 @@
 ghost use mathlib.Core.Path.{_≡_};
 ghost use Prim.Native.Nat.{_+_, _≤_};
 ghost use lib.ListN.{length};
+ghost use Rattle.machine.specs.RamView.{Ordered};
 ghost use Rattle.machine.specs.Choice.{aboveOf};
 ghost use Rattle.machine.specs.Machine.{memory};
 ghost use Rattle.inner_step.specs.PerformView.{jumpsBy, amongOf, newOf, freshOf, Fit, Limited};
@@ -9,8 +10,8 @@ use machine::checks::above;
 use machine::checks::first;
 use machine::checks::least;
 use machine::effect::Effect;
+use machine::near;
 use machine::op_stack::over;
-use machine::ram;
 use machine::ram::Found;
 use machine::state::VMState;
 
@@ -44,30 +45,55 @@ fn among(written: [u64; 10], from: usize, n: usize, address: u64) -> bool
     found
 }
 
-// 1 where the write at place from + i adds a cell: its address has none, and no write before it has the same.
-fn new_cell(addresses: &[u64], count: usize, written: [u64; 10], from: usize, i: usize) -> usize
-    requires { ⌜ (count ≤ length (now addresses)) × (from + i + 1 ≤ 10) ⌝ }
-    ensures { λ r. ⌜ r ≡ newOf (now (addresses .entry)) count written from i ⌝ }
+// How many cells a write adds, and the place of its address or a guess at it.
+struct Added {
+    cells: usize,
+    place: usize,
+}
+
+// One where the write at place from + i has an address with no cell, and no write before it has the same.
+fn new_cell(
+    addresses: &[u64],
+    count: usize,
+    written: [u64; 10],
+    from: usize,
+    i: usize,
+    guess: usize,
+) -> Added
+    requires { ⌜ (Ordered (now addresses) count) × (from + i + 1 ≤ 10) ⌝ }
+    ensures { λ r. ⌜ r .cells ≡ newOf (now (addresses .entry)) count written from i ⌝ }
 {
     let address = written[from + i];
     if among(written, from, i, address) {
-        return 0;
+        return Added {
+            cells: 0,
+            place: guess,
+        };
     }
-    match ram::find(addresses, count, address) {
-        Found::At(_) => 0,
-        Found::Absent(_) => 1,
+    match near::find(addresses, count, address, guess) {
+        Found::At(place) => Added {
+            cells: 0,
+            place: place,
+        },
+        Found::Absent(place) => Added {
+            cells: 1,
+            place: place,
+        },
     }
 }
 
-// How many cells the n writes from place `from` on add.
+// How many cells the n writes from place `from` on add; they are looked for as write_all does.
 fn fresh(addresses: &[u64], count: usize, written: [u64; 10], from: usize, n: usize) -> usize
-    requires { ⌜ (count ≤ length (now addresses)) × (from + n ≤ 10) ⌝ }
+    requires { ⌜ (Ordered (now addresses) count) × (from + n ≤ 10) ⌝ }
     ensures { λ r. ⌜ r ≡ freshOf (now (addresses .entry)) count written from n ⌝ }
 {
     let mut more = 0;
+    let mut guess = count;
     let mut i = 0;
     while i < n {
-        more += new_cell(addresses, count, written, from, i);
+        let added = new_cell(addresses, count, written, from, i, guess);
+        more += added.cells;
+        guess = added.place;
         i += 1;
     }
     more
@@ -75,7 +101,7 @@ fn fresh(addresses: &[u64], count: usize, written: [u64; 10], from: usize, n: us
 
 // 32 where the writes need more cells than there are. Addresses are looked for only where the table is nearly full.
 fn ram_limit(addresses: &[u64], count: usize, written: [u64; 10], from: usize, n: usize) -> u64
-    requires { ⌜ (count ≤ length (now addresses)) × (from + n ≤ 10) × (length (now addresses) ≤ 16777216) ⌝ }
+    requires { ⌜ (Ordered (now addresses) count) × (from + n ≤ 10) × (length (now addresses) ≤ 16777216) ⌝ }
     ensures { λ r. ⌜ r ≡ aboveOf (count + freshOf (now (addresses .entry)) count written from n) (length (now (addresses .entry))) 32 ⌝ }
 {
     if count + n <= addresses.len() {

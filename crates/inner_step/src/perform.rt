@@ -11,9 +11,9 @@ ghost use Rattle.inner_step.specs.PerformView.{jumpWords, Writes, Moves,
 use crate::limits::jumps_after;
 use machine::checks::least;
 use machine::effect::Effect;
+use machine::near;
 use machine::op_stack::apply;
 use machine::op_stack::over;
-use machine::ram;
 use machine::state::VMState;
 use tip5::sponge::Sponge;
 
@@ -39,7 +39,8 @@ fn change_jumps(s: &mut [u64], n: usize, calls: bool, returns: bool, word: u64)
     }
 }
 
-// The n writes of RAM from place `from` on, in order; gives how many cells are used then.
+// The n writes of RAM from place `from` on, in order; gives how many cells are used then. The first is looked for at the end, each other
+// beside the one before.
 fn write_all(
     addresses: &mut [u64],
     values: &mut [u64],
@@ -53,10 +54,13 @@ fn write_all(
     ensures { λ r. ⌜ cells r (now (addresses .exit)) (now (values .exit)) ≡ touched (cells count (now (addresses .entry)) (now (values .entry))) (writesFrom written words from n) ⌝ }
 {
     let mut used = count;
+    let mut guess = count;
     let mut i = 0;
     while i < n {
-        let place = from + i;
-        used = ram::write(addresses, values, used, written[place], words[place]);
+        let at = from + i;
+        let put = near::write(addresses, values, used, written[at], words[at], guess);
+        used = put.count;
+        guess = put.place;
         i += 1;
     }
     used

@@ -4,7 +4,7 @@ use mathlib.Core.List.{[], _∷_}
 use Rattle.machine.specs.Choice.{firstOf, aboveOf, differOf}
 use Rattle.machine.specs.Bytes.{bytesOf, numberOf}
 use Rattle.machine.specs.Words.{wordOf2, wordsOf, zerosFrom}
-use Rattle.machine.specs.Ram.{placeFrom, find, held, cells1, cells2, cells5, twiceOf}
+use Rattle.machine.specs.Ram.{placeFrom, placeOf, standsAt, find, held, cells1, cells2, cells5, fallOf, fallsOf}
 use Rattle.machine.specs.Instruction.{table, decode, sizeOf}
 use Rattle.machine.specs.Machine.{topOf}
 use Rattle.machine.specs.Stack.{pushOf}
@@ -46,7 +46,7 @@ unfolding exampleJob exampleFile fileRecord lengthIn pieceKind pieceSize pieceIn
 example-job = refl
 
 example-lines : jobLines exampleJob ≡ exampleText
-unfolding exampleJob exampleText jobLines runLines recordsBy endLine outLines lineOf linesOf digitsOf decimalOf fieldOf directionText stackLine outLine countsOf haltedLine logged callRecords growing shrinking stackRecords recordsOf outcomeBy stepsBy openedStack opened openOf code1 memory1 code2 opcodes3 arguments4 code34 openA appliedStack touched performed limitsOf settled effectOf decideOf addOf fromTop reversed writeIoOf haltOf pushOf topOf table decode sizeOf placeFrom find held cells1 cells2 cells5 twiceOf wordOf2 wordsOf zerosFrom firstOf aboveOf differOf
+unfolding exampleJob exampleText jobLines runLines recordsBy endLine outLines lineOf linesOf digitsOf decimalOf fieldOf directionText stackLine outLine countsOf haltedLine logged callRecords growing shrinking stackRecords recordsOf outcomeBy stepsBy openedStack opened openOf code1 memory1 code2 opcodes3 arguments4 code34 openA appliedStack touched performed limitsOf settled effectOf decideOf addOf fromTop reversed writeIoOf haltOf pushOf topOf table decode sizeOf placeFrom placeOf standsAt find held cells1 cells2 cells5 fallOf fallsOf wordOf2 wordsOf zerosFrom firstOf aboveOf differOf
 example-lines = refl
 
 -- document 01's example, from its bytes to what is printed
@@ -63,7 +63,7 @@ twenty-digits = refl
 
 -- a file of a digest alone opens an empty program: "end refused 11 0 0 16"
 pub digest-alone : printedOf digestRecord ≡ 101 ∷ 110 ∷ 100 ∷ 32 ∷ 114 ∷ 101 ∷ 102 ∷ 117 ∷ 115 ∷ 101 ∷ 100 ∷ 32 ∷ 49 ∷ 49 ∷ 32 ∷ 48 ∷ 32 ∷ 48 ∷ 32 ∷ 49 ∷ 54 ∷ 10 ∷ []
-unfolding refusedLine jobLines runLines recordsBy endLine outLines lineOf linesOf digitsOf decimalOf fieldOf directionText stackLine outLine countsOf haltedLine logged callRecords growing shrinking stackRecords recordsOf outcomeBy stepsBy openedStack opened openOf code1 memory1 code2 opcodes3 arguments4 code34 openA appliedStack touched performed limitsOf settled effectOf decideOf addOf fromTop reversed writeIoOf haltOf pushOf topOf table decode sizeOf placeFrom find held cells1 cells2 cells5 twiceOf wordOf2 wordsOf zerosFrom firstOf aboveOf differOf fileRecord lengthIn pieceKind pieceSize pieceIn piecesIn piecesOf countOf numbersIn column faultOf jobOf kindIn wholeBy sizeBy bytesOf numberOf
+unfolding refusedLine jobLines runLines recordsBy endLine outLines lineOf linesOf digitsOf decimalOf fieldOf directionText stackLine outLine countsOf haltedLine logged callRecords growing shrinking stackRecords recordsOf outcomeBy stepsBy openedStack opened openOf code1 memory1 code2 opcodes3 arguments4 code34 openA appliedStack touched performed limitsOf settled effectOf decideOf addOf fromTop reversed writeIoOf haltOf pushOf topOf table decode sizeOf placeFrom placeOf standsAt find held cells1 cells2 cells5 fallOf fallsOf wordOf2 wordsOf zerosFrom firstOf aboveOf differOf fileRecord lengthIn pieceKind pieceSize pieceIn piecesIn piecesOf countOf numbersIn column faultOf jobOf kindIn wholeBy sizeBy bytesOf numberOf
 digest-alone = refl
 
 -- an empty file is broken: "end refused 50 0 0 0"

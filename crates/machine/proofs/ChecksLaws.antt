@@ -5,12 +5,11 @@ use mathlib.Core.List.{List, []}
 use Prim.Native.Nat.{ℕ, zero, suc, _+_, _-_, _≤_, _<_}
 use native.Mathlib.Numerals.{add-one}
 use native.Mathlib.Omega.{arith}
-use borrow.Author.Tests.{eqb-true, eqb-false, ltb-true, ltb-false}
+use borrow.Author.Tests.{eqb-true, eqb-false}
 use lib.ListN.{length, getD}
-use lib.Dec.{eqb, ltb}
-use Rattle.machine.specs.Choice.{cond, firstOf, aboveOf}
+use lib.Dec.{eqb}
+use Rattle.machine.specs.Choice.{firstOf, aboveOf}
 use Rattle.machine.specs.Words.{wordOf2, wordsOf, zerosFrom}
-use Rattle.machine.specs.Ram.{cells, at, absent, placeFrom, find, twiceOf}
 use Rattle.machine.specs.Instruction.{Decoded, known, unknown, decode}
 use Rattle.machine.specs.InstructionView.{knownIn}
 use Rattle.machine.specs.Machine.{Code, Memory, code}
@@ -139,36 +138,3 @@ slots-end s a i f l m h k =
     let e : i ≡ length s = omega arith in
     let z : opcodes3 s (length s) ≡ 0 = rw (← e) h in
     k ∙ rw e (sym (first-zero _ _ z))
-
--- ---- addresses
-
-pub before-at : (s v : List ℕ) (a n i : ℕ) → at i ≡ find (cells n s v) a → 5 ≡ aboveOf n (placeFrom s a n 0) 5
-unfolding find
-before-at s v a n i h = go (ltb (placeFrom s a n 0) n) refl h
-  where
-    go : (b : Bool) → ltb (placeFrom s a n 0) n ≡ b → at i ≡ cond b (at (placeFrom s a n 0)) (absent n) → 5 ≡ aboveOf n (placeFrom s a n 0) 5
-    go true e q = sym (above-is n (placeFrom s a n 0) 5 (ltb-true (placeFrom s a n 0) n e))
-    go false e q = let z : _≡_ {A = ℕ} 0 1 = cc in absurd (omega arith)
-
-pub before-absent : (s v : List ℕ) (a n i : ℕ) → absent i ≡ find (cells n s v) a → 0 ≡ aboveOf n (placeFrom s a n 0) 5
-unfolding find
-before-absent s v a n i h = go (ltb (placeFrom s a n 0) n) refl h
-  where
-    go : (b : Bool) → ltb (placeFrom s a n 0) n ≡ b → absent i ≡ cond b (at (placeFrom s a n 0)) (absent n) → 0 ≡ aboveOf n (placeFrom s a n 0) 5
-    go true e q = let z : _≡_ {A = ℕ} 0 1 = cc in absurd (omega arith)
-    go false e q = sym (above-not n (placeFrom s a n 0) 5 (ltb-false (placeFrom s a n 0) n e))
-
-twice-turn : (s : List ℕ) (n : ℕ) → twiceOf s (suc n) ≡ firstOf (twiceOf s n) (aboveOf n (placeFrom s (getD s n 0) n 0) 5)
-unfolding twiceOf
-twice-turn s n = refl
-
-pub twice-more : (s : List ℕ) (n f : ℕ) → twiceOf s n ≡ 0 → f ≡ aboveOf n (placeFrom s (getD s n 0) n 0) 5 → f ≤ 0 → twiceOf s (n + 1) ≡ 0
-twice-more s n f h e l = scan-more (twiceOf s) _ (twice-turn s) n h (omega (arith, e))
-
-pub twice-stop : (s : List ℕ) (n m f : ℕ) → n < m → twiceOf s n ≡ 0 → f ≡ aboveOf n (placeFrom s (getD s n 0) n 0) 5 → 0 < f → f ≡ twiceOf s m
-twice-stop s n m f l h e k = sym (scan-stop (twiceOf s) _ (twice-turn s) n m f l k h (sym e))
-
-pub twice-end : (s : List ℕ) (n m : ℕ) → n ≤ m → m ≤ n → twiceOf s n ≡ 0 → 0 ≡ twiceOf s m
-twice-end s n m l k h =
-    let e : m ≡ n = omega arith in
-    rw e (sym h)

@@ -66,6 +66,5 @@ sound-helpable m s =
       used = s .opStack .used;
       words = s .opStack .words;
       digests = s .digests;
-      addresses = s .cells .used;
-      values = rw (← s .cells .pair) (s .cells .used);
+      usable = record { ordered = record { within = s .cells .used; ascending = s .cells .ascending }; values = rw (← s .cells .pair) (s .cells .used) };
     }

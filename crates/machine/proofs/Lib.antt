@@ -1,8 +1,10 @@
 -- The laws that the proofs cite.
 pub mod Choice
 pub mod Words
+pub mod Moves
 pub mod RamLaws
 pub mod RamView
+pub mod Order
 pub mod Copies
 pub mod MemoryView
 pub mod Touched

@@ -37,7 +37,7 @@ cells-sound c h k l =
       used = u;
       addresses = words-nil (c .addresses) (c .count) u (rw m at (first-nil _ _ k .0));
       values = words-nil (c .values) (c .count) (omega arith) (rw n at (first-nil _ _ k .1));
-      once = first-nil _ _ l .1;
+      ascending = first-nil _ _ l .1;
     }
 
 pub cells1-fine : (c : Cells) → SoundCells c → cells1 c ≡ 0
@@ -55,7 +55,7 @@ cells2-fine c s =
 
 pub cells5-fine : (c : Cells) → SoundCells c → cells5 c ≡ 0
 unfolding cells5
-cells5-fine c s = first-zero _ _ (above-not (c .count) (length (c .addresses)) 5 (s .used)) ∙ s .once
+cells5-fine c s = first-zero _ _ (above-not (c .count) (length (c .addresses)) 5 (s .used)) ∙ s .ascending
 
 -- ---- program and inputs
 

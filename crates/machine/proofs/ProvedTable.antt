@@ -4,7 +4,7 @@ use Rattle.field.specs.Extension.{mulX}
 use Rattle.tip5.specs.SplitAndLookup.{lookupOf}
 use Rattle.machine.specs.Choice.{firstOf, aboveOf, differOf}
 use Rattle.machine.specs.Words.{wordOf2, wordsOf, zerosFrom}
-use Rattle.machine.specs.Ram.{placeFrom, find, held, cells1, cells2, cells5, twiceOf}
+use Rattle.machine.specs.Ram.{placeFrom, placeOf, standsAt, find, held, cells1, cells2, cells5, fallOf, fallsOf}
 use Rattle.machine.specs.Instruction.{table, decode, sizeOf}
 use Rattle.machine.specs.Machine.{topOf}
 use Rattle.machine.specs.Stack.{popOf}
@@ -21,5 +21,5 @@ use Rattle.machine.specs.Step.{outcomeBy, stepBy}
 use Rattle.machine.specs.ProvedTable.{standing, asked, stepping, provedTable, seenIn, expectedIn}
 
 pub proved-table : seenIn provedTable ≡ expectedIn provedTable
-unfolding provedTable stepping asked standing outcomeBy stepBy code1 memory1 buffer1 code2 machine2 opcodes3 arguments4 code34 machine5 machineA stepA appliedStack touched performed dropped limitsOf settled effectOf decideOf splitOf ltOf xorOf log2FloorOf powOf divModOf popCountOf onesOf highestOf eitherOf addOf xxMulOf fromTop reversed wordsDown readsDown readMemOf skizOf popOf topOf table decode sizeOf placeFrom find held cells1 cells2 cells5 twiceOf wordOf2 wordsOf zerosFrom firstOf aboveOf differOf mulX lookupOf
+unfolding provedTable stepping asked standing outcomeBy stepBy code1 memory1 buffer1 code2 machine2 opcodes3 arguments4 code34 machine5 machineA stepA appliedStack touched performed dropped limitsOf settled effectOf decideOf splitOf ltOf xorOf log2FloorOf powOf divModOf popCountOf onesOf highestOf eitherOf addOf xxMulOf fromTop reversed wordsDown readsDown readMemOf skizOf popOf topOf table decode sizeOf placeFrom placeOf standsAt find held cells1 cells2 cells5 fallOf fallsOf wordOf2 wordsOf zerosFrom firstOf aboveOf differOf mulX lookupOf
 proved-table = refl

@@ -11,7 +11,7 @@ use Rattle.machine.specs.Ram.{Cells, held, stored, Alike}
 use Rattle.machine.specs.Effect.{Call, reset, tip5, u32, ramRead, ramWrite}
 use Rattle.machine.specs.Apply.{touched}
 use Rattle.machine.specs.Sound.{SoundCells, Honest}
-use Rattle.machine.proofs.RamLaws.{stored-more, stored-addresses, stored-values, stored-words, stored-addresses-words, stored-once, held-stored, alike-stored}
+use Rattle.machine.proofs.RamLaws.{stored-more, stored-addresses, stored-values, stored-words, stored-addresses-words, stored-ascending, held-stored, alike-stored}
 
 pub touched-more : (cs : List Call) (c : Cells) → c .count ≤ touched c cs .count
 unfolding touched
@@ -65,7 +65,7 @@ stored-sound {c} a v h k r s =
       used = rw x r;
       addresses = stored-addresses-words c a v h r (s .addresses);
       values = stored-words c a v k (omega (arith, s .pair)) (s .values);
-      once = stored-once c a v r (s .pair) (s .once);
+      ascending = stored-ascending c a v r (s .pair) (s .ascending);
     }
 
 pub touched-sound : {c : Cells} {cs : List Call} → Honest c cs → touched c cs .count ≤ length (c .addresses) → SoundCells c → SoundCells (touched c cs)

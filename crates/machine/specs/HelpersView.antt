@@ -5,7 +5,8 @@ use mathlib.Core.List.{List}
 use lib.ListN.{length, drop}
 use Rattle.machine.specs.declared.state.VMState.{VMState}
 use Rattle.machine.specs.Words.{Words}
-use Rattle.machine.specs.Ram.{Cells}
+use Rattle.machine.specs.Ram.{Cells, cells as cellsOf}
+use Rattle.machine.specs.RamView.{Usable}
 use Rattle.machine.specs.Instruction.{decode}
 use Rattle.machine.specs.Machine.{Machine, machine, code, memory, ram, digestsLeft}
 use Rattle.machine.specs.Machine as M
@@ -13,10 +14,9 @@ use Rattle.machine.specs.HelperVariables.{filled, helpersIn, helpersAt}
 
 -- ---- an instruction that reads RAM
 
--- cells whose used ones are in both slices, and words
+-- usable cells, and words
 pub record Reading (c : Cells) (w : List ℕ) : Type 0 where
-  pub addresses : c .count ≤ length (c .addresses)
-  pub values : c .count ≤ length (c .values)
+  pub usable : Usable c
   pub words : Words w
 
 -- ---- one slot
@@ -40,8 +40,7 @@ pub record ReliableHelp (h : HandedHelp) : Type 0 where
   pub words : Words (h .top)
   pub inside : h .pointer < length (h .opcodes)
   pub digests : 5 * h .taken ≤ length (h .digests)
-  pub addresses : h .cells .count ≤ length (h .cells .addresses)
-  pub values : h .cells .count ≤ length (h .cells .values)
+  pub usable : Usable (h .cells)
 
 -- it is what the machine m shows
 pub record ShowsHelp (m : Machine) (h : HandedHelp) : Type 0 where
@@ -63,8 +62,7 @@ pub record Helpable (s : VMState) (o a d w x v : List ℕ) : Type 0 where
   pub used : s .depth ≤ length w
   pub words : Words w
   pub digests : 5 * s .digests ≤ length d
-  pub addresses : s .cells ≤ length x
-  pub values : s .cells ≤ length v
+  pub usable : Usable (cellsOf (s .cells) x v)
 
 -- whatever the other slices are
 pub record HelpersAre (s : VMState) (o a d w x v : List ℕ) (r : List ℕ) : Type 0 where

@@ -5,15 +5,14 @@ use mathlib.Core.List.{List}
 use lib.ListN.{length, take}
 use Rattle.field.specs.Base.{p, addP, subP}
 use Rattle.machine.specs.declared.memory.Accesses.{Accesses}
-use Rattle.machine.specs.Words.{Words}
 use Rattle.machine.specs.Ram.{Cells}
+use Rattle.machine.specs.RamView.{Usable}
 use Rattle.machine.specs.EffectView.{readsFrom, writesFrom}
 use Rattle.machine.specs.Memory.{wordsUp, wordsDown, readsUp, readsDown, writesUp}
 
--- at most ten accesses from a word on, of cells whose used ones are in both slices
+-- at most ten accesses from a word on, of usable cells
 pub record Cells10 (c : Cells) (start n : ℕ) : Type 0 where
-  pub addresses : c .count ≤ length (c .addresses)
-  pub values : c .count ≤ length (c .values)
+  pub usable : Usable c
   pub word : start < p
   pub few : n ≤ 10
 

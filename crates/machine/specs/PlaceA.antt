@@ -80,7 +80,7 @@ arguments4 s a (suc n) = firstOf (arguments4 s a n) (argument4 (decode (getD s n
 unfoldable pub code34 : Code → ℕ
 code34 c = firstOf (opcodes3 (c .opcodes) (length (c .opcodes))) (arguments4 (c .opcodes) (c .arguments) (length (c .opcodes)))
 
--- ---- 5: depth, counts and positions outside their slices, unused stack words that are not 0, a RAM address twice
+-- ---- 5: depth, counts and positions outside their slices, unused stack words that are not 0, RAM addresses that do not ascend
 
 -- what stands at place n and behind it
 abbrev pub unused5 : List ℕ → ℕ → ℕ

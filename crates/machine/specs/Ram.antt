@@ -1,6 +1,6 @@
--- RAM: cells in two lists, of addresses and of values, of which the first so many are used. Everything above goes by find,
--- held, stored and the conditions at the end, and looks behind none of them.
-use Prim.Native.Nat.{ℕ, zero, suc, _+_, _<_, min}
+-- RAM: cells in two lists, of addresses and of values, of which the first so many are used, ascending by address. Everything
+-- above goes by find, held, stored and the conditions at the end, and looks behind none of them.
+use Prim.Native.Nat.{ℕ, zero, suc, _+_, _-_, _<_, min}
 use mathlib.Core.Path.{_≡_}
 use mathlib.Core.Bool.{Bool, true, false}
 use mathlib.Core.List.{List}
@@ -23,14 +23,21 @@ pub data Found : Type 0 where
   at : ℕ → Found
   absent : ℕ → Found
 
--- the first of f places from i on that has the address a; i + f where none does
+-- the first of f places from i on whose element is not below a; i + f where all are
 unfoldable pub placeFrom : List ℕ → ℕ → ℕ → ℕ → ℕ
 placeFrom s a zero i = i
-placeFrom s a (suc f) i = cond (eqb (getD s i 0) a) i (placeFrom s a f (suc i))
+placeFrom s a (suc f) i = cond (ltb (getD s i 0) a) (placeFrom s a f (suc i)) i
 
--- 'a new address goes behind the last used cell'
+-- the place of an address: the first used cell whose address is not below it
+unfoldable pub placeOf : Cells → ℕ → ℕ
+placeOf c a = placeFrom (c .addresses) a (c .count) 0
+
+-- whether a used cell at a place has an address
+unfoldable pub standsAt : Cells → ℕ → ℕ → Bool
+standsAt c i a = cond (ltb i (c .count)) (eqb (getD (c .addresses) i 0) a) false
+
 unfoldable pub find : Cells → ℕ → Found
-find c a = cond (ltb (placeFrom (c .addresses) a (c .count) 0) (c .count)) (at (placeFrom (c .addresses) a (c .count) 0)) (absent (c .count))
+find c a = cond (standsAt c (placeOf c a) a) (at (placeOf c a)) (absent (placeOf c a))
 
 abbrev pub hasAt : Found → Bool
 hasAt (at i) = true
@@ -49,9 +56,18 @@ heldAt c (absent i) = 0
 unfoldable pub held : Cells → ℕ → ℕ
 held c a = heldAt c (find c a)
 
+-- the n elements from i on one place up, over the one behind them
+unfoldable pub movedUp : List ℕ → ℕ → ℕ → List ℕ
+movedUp s i zero = s
+movedUp s i (suc n) = set (movedUp s (suc i) n) (suc i) (getD s i 0)
+
+-- x put in at place i of the n used ones: those from i on move up by one, the unused ones behind keep their words
+unfoldable pub inserted : List ℕ → ℕ → ℕ → ℕ → List ℕ
+inserted s n i x = set (movedUp s i (n - i)) i x
+
 abbrev pub storedAt : Cells → ℕ → ℕ → Found → Cells
 storedAt c a v (at i) = cells (c .count) (c .addresses) (set (c .values) i v)
-storedAt c a v (absent i) = cells (c .count + 1) (set (c .addresses) i a) (set (c .values) i v)
+storedAt c a v (absent i) = cells (c .count + 1) (inserted (c .addresses) (c .count) i a) (inserted (c .values) (c .count) i v)
 
 -- the cells after a write
 unfoldable pub stored : Cells → ℕ → ℕ → Cells
@@ -74,10 +90,15 @@ cells1 c = firstOf (tooLong (c .addresses)) (firstOf (tooLong (c .values)) (diff
 unfoldable pub cells2 : Cells → ℕ
 cells2 c = firstOf (wordsOf (c .addresses) (min (c .count) (length (c .addresses)))) (wordsOf (c .values) (min (c .count) (length (c .values))))
 
--- 5 where one of the first n addresses stands before itself too
-unfoldable pub twiceOf : List ℕ → ℕ → ℕ
-twiceOf s zero = 0
-twiceOf s (suc n) = firstOf (twiceOf s n) (aboveOf n (placeFrom s (getD s n 0) n 0) 5)
+-- 5 where x is not below y
+unfoldable pub fallOf : ℕ → ℕ → ℕ
+fallOf x y = cond (ltb x y) 0 5
 
+-- 5 where one of the first n elements is not below its neighbour
+unfoldable pub fallsOf : List ℕ → ℕ → ℕ
+fallsOf s zero = 0
+fallsOf s (suc n) = firstOf (fallsOf s n) (fallOf (getD s n 0) (getD s (suc n) 0))
+
+-- n used cells have n - 1 pairs of neighbours
 unfoldable pub cells5 : Cells → ℕ
-cells5 c = firstOf (aboveOf (c .count) (length (c .addresses)) 5) (twiceOf (c .addresses) (c .count))
+cells5 c = firstOf (aboveOf (c .count) (length (c .addresses)) 5) (fallsOf (c .addresses) (c .count - 1))

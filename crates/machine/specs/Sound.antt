@@ -1,6 +1,6 @@
 -- What place A accepts, said as facts: what a step may rely on and leaves again. And what an instruction's effect has to
 -- satisfy, so that a step leaves it.
-use Prim.Native.Nat.{ℕ, _+_, _*_, _%_, _≤_, _<_}
+use Prim.Native.Nat.{ℕ, _+_, _-_, _*_, _%_, _≤_, _<_}
 use mathlib.Core.Path.{_≡_}
 use mathlib.Core.Bool.{Bool}
 use mathlib.Core.List.{List, [], _∷_}
@@ -8,7 +8,7 @@ use lib.ListN.{length, getD, take}
 use Rattle.field.specs.Base.{p}
 use Rattle.tip5.specs.declared.sponge.Sponge.{Sponge}
 use Rattle.machine.specs.Words.{Words}
-use Rattle.machine.specs.Ram.{Cells, held, stored, twiceOf}
+use Rattle.machine.specs.Ram.{Cells, held, stored, fallsOf}
 use Rattle.machine.specs.Machine.{Code, Memory, Machine, ram}
 use Rattle.machine.specs.Effect.{Call, reset, tip5, u32, ramRead, ramWrite, JumpChange, stays, pushes, pops, Effect}
 use Rattle.machine.specs.Apply.{pointerAfter, spongeAfter}
@@ -34,7 +34,7 @@ pub record SoundCells (c : Cells) : Type 0 where
   pub used : c .count ≤ length (c .addresses)
   pub addresses : Words (take (c .count) (c .addresses))
   pub values : Words (take (c .count) (c .values))
-  pub once : twiceOf (c .addresses) (c .count) ≡ 0
+  pub ascending : fallsOf (c .addresses) (c .count - 1) ≡ 0
 
 -- the first n words of a stack are used, and the others are 0
 pub record SoundStack (s : List ℕ) (n : ℕ) : Type 0 where

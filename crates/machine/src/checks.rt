@@ -3,15 +3,14 @@
 ghost use mathlib.Core.Path.{_≡_};
 ghost use mathlib.Core.List.{[] as Nil};
 ghost use Prim.Native.Nat.{_/_, _≤_, _<_, min};
-ghost use lib.ListN.{length, getD};
+ghost use lib.ListN.{length};
 ghost use Rattle.machine.specs.Choice.{firstOf, aboveOf, differOf};
 ghost use Rattle.machine.specs.Words.{wordOf2, wordsOf};
-ghost use Rattle.machine.specs.Ram.{cells as cellsOf, cells1, cells2, cells5, placeFrom, twiceOf};
+ghost use Rattle.machine.specs.Ram.{cells as cellsOf, cells1, cells2, cells5};
 ghost use Rattle.machine.specs.Machine.{machine, code, memory};
 ghost use Rattle.machine.specs.PlaceA.{longest, code1, memory1, code2, used2, code34, unused5, machineA, openA};
 use crate::instruction;
 use crate::ram;
-use crate::ram::Found;
 use crate::state::VMState;
 
 // The first number that is not 0.
@@ -229,33 +228,6 @@ pub fn unused_words(s: &[u64], n: usize) -> u64
     0
 }
 
-// 5 where the address at place n stands before it too.
-fn stands_before(addresses: &[u64], n: usize) -> u64
-    requires { ⌜ n < length (now addresses) ⌝ }
-    ensures { λ r. ⌜ r ≡ aboveOf n (placeFrom (now (addresses .entry)) (getD (now (addresses .entry)) n 0) n 0) 5 ⌝ }
-{
-    match ram::find(addresses, n, addresses[n]) {
-        Found::At(_) => 5,
-        Found::Absent(_) => 0,
-    }
-}
-
-// 5 where one of the first `count` addresses stands twice: each is looked for among those before it.
-fn twice(addresses: &[u64], count: usize) -> u64
-    requires { ⌜ count ≤ length (now addresses) ⌝ }
-    ensures { λ r. ⌜ r ≡ twiceOf (now (addresses .entry)) count ⌝ }
-{
-    let mut n = 0;
-    while n < count {
-        let fault = stands_before(addresses, n);
-        if 0 < fault {
-            return fault;
-        }
-        n += 1;
-    }
-    0
-}
-
 // The count is tried first, so that no address beyond the slice is looked for.
 pub fn used_cells(addresses: &[u64], count: usize) -> u64
     ensures { λ r. ⌜ r ≡ cells5 (cellsOf count (now (addresses .entry)) Nil) ⌝ }
@@ -263,7 +235,7 @@ pub fn used_cells(addresses: &[u64], count: usize) -> u64
     if addresses.len() < count {
         5
     } else {
-        twice(addresses, count)
+        ram::falls(addresses, count)
     }
 }
 
@@ -310,9 +282,8 @@ fn counts(state: VMState, op_stack: &[u64], origins: &[u64], output: &[u64], res
     past(16, state.depth, past(state.depth, op_stack.len(), used))
 }
 
-// Place A of run and of helper variables; a step's has check_buffer before it. The work, in words read: opcodes, inputs
-// and stacks once, arguments twice, n used RAM cells twice, and n (n - 1) / 2 addresses to see that none stands twice. It is
-// linear but for these.
+// Place A of run and of helper variables; a step's has check_buffer before it. The work is linear. In words read: opcodes,
+// inputs and stacks once, arguments twice, the values of used RAM cells once and their addresses three times.
 pub fn check_machine(
     state: VMState,
     opcodes: &[u64],

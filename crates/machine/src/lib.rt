@@ -11,6 +11,7 @@ pub mod input_output;
 pub mod instruction;
 pub mod many_in_one;
 pub mod memory;
+pub mod near;
 pub mod op_stack;
 pub mod ram;
 pub mod refusal;

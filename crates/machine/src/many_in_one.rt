@@ -12,6 +12,7 @@ ghost use Rattle.machine.specs.Effect.{acts, drawing, recording, ramRead
 ghost use Rattle.machine.specs.EffectView.{decisionOf, readsFrom};
 ghost use Rattle.machine.specs.HashedView.{hashedOf};
 ghost use Rattle.machine.specs.MemoryView.{Cells10};
+ghost use Rattle.machine.specs.RamView.{Usable};
 ghost use Rattle.machine.specs.Hashing.{fixedLength, lastState, reversed};
 ghost use Rattle.machine.specs.Arithmetic.{xst, wordsX};
 ghost use Rattle.machine.specs.ManyInOne.{siblings, merkleTrace, parent, merkleCalls, merkleStepped, merkleStepOf, merkleStepMemOf, xheld, xxDotStepOf, xbDotStepOf};
@@ -22,6 +23,7 @@ use crate::hashing;
 use crate::hashing::Hashed;
 use crate::memory;
 use crate::memory::Accesses;
+use crate::near;
 use crate::ram;
 use crate::refusal::InstructionError;
 use field::base;
@@ -179,13 +181,16 @@ fn accumulator(w: [u64; 16]) -> XFieldElement
 
 // The extension word in RAM at a.
 fn element_at(addresses: &[u64], values: &[u64], count: usize, a: u64) -> XFieldElement
-    requires { ⌜ (count ≤ length (now addresses)) × (count ≤ length (now values)) × (a < p) ⌝ }
+    requires { ⌜ (Usable (cells count (now addresses) (now values))) × (a < p) ⌝ }
     ensures { λ r. ⌜ r ≡ xheld (cells count (now (addresses .entry)) (now (values .entry))) a ⌝ }
 {
+    let x = near::read(addresses, values, count, a, 0);
+    let y = near::read(addresses, values, count, base::add(a, 1), x.place);
+    let z = near::read(addresses, values, count, base::add(a, 2), y.place);
     XFieldElement {
-        c0: ram::read(addresses, values, count, a),
-        c1: ram::read(addresses, values, count, base::add(a, 1)),
-        c2: ram::read(addresses, values, count, base::add(a, 2)),
+        c0: x.word,
+        c1: y.word,
+        c2: z.word,
     }
 }
 
@@ -218,7 +223,7 @@ fn put_xx(l: u64, r: u64, x: XFieldElement, y: XFieldElement, z: XFieldElement) 
 }
 
 pub fn xx_dot_step(addresses: &[u64], values: &[u64], count: usize, w: [u64; 16]) -> Decided
-    requires { ⌜ (Words w) × (count ≤ length (now addresses)) × (count ≤ length (now values)) ⌝ }
+    requires { ⌜ (Words w) × (Usable (cells count (now addresses) (now values))) ⌝ }
     ensures { λ r. ⌜ decisionOf r ≡ xxDotStepOf (cells count (now (addresses .entry)) (now (values .entry))) w ⌝ }
 {
     let l = w[15];
@@ -259,7 +264,7 @@ fn put_xb(l: u64, r: u64, b: u64, x: XFieldElement, z: XFieldElement) -> Decided
 }
 
 pub fn xb_dot_step(addresses: &[u64], values: &[u64], count: usize, w: [u64; 16]) -> Decided
-    requires { ⌜ (Words w) × (count ≤ length (now addresses)) × (count ≤ length (now values)) ⌝ }
+    requires { ⌜ (Words w) × (Usable (cells count (now addresses) (now values))) ⌝ }
     ensures { λ r. ⌜ decisionOf r ≡ xbDotStepOf (cells count (now (addresses .entry)) (now (values .entry))) w ⌝ }
 {
     let l = w[15];

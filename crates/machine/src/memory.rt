@@ -1,7 +1,6 @@
 // The instructions that read and write RAM. Addresses go on modulo P.
 ghost use mathlib.Core.Path.{_≡_};
 ghost use Prim.Native.Nat.{_≤_, _<_};
-ghost use lib.ListN.{length};
 ghost use Rattle.machine.specs.Words.{Words};
 ghost use Rattle.machine.specs.Ram.{cells};
 ghost use Rattle.machine.specs.EffectView.{decisionOf};
@@ -11,7 +10,7 @@ ghost use Rattle.machine.specs.Machine.{st};
 ghost use Rattle.machine.specs.MemoryView.{Cells10, ReadDown, ReadUp, Written};
 use crate::effect;
 use crate::effect::Decided;
-use crate::ram;
+use crate::near;
 use field::base;
 
 // Accesses in a row: addresses and values, the values once more as words to put on, and the address behind the last.
@@ -22,7 +21,7 @@ pub struct Accesses {
     pub next: u64,
 }
 
-// The n words at start, start + 1, ..
+// The n words at start, start + 1, .., each looked for beside the one before.
 pub fn read_up(addresses: &[u64], values: &[u64], count: usize, start: u64, n: usize) -> Accesses
     requires { ⌜ Cells10 (cells count (now addresses) (now values)) start n ⌝ }
     ensures { λ r. ⌜ ReadUp (cells count (now (addresses .entry)) (now (values .entry))) start n r ⌝ }
@@ -31,13 +30,15 @@ pub fn read_up(addresses: &[u64], values: &[u64], count: usize, start: u64, n: u
     let mut held = [0u64; 10];
     let mut words = [0u64; 16];
     let mut x = start;
+    let mut guess = 0;
     let mut i = 0;
     while i < n {
-        let v = ram::read(addresses, values, count, x);
+        let got = near::read(addresses, values, count, x, guess);
         at[i] = x;
-        held[i] = v;
-        words[i] = v;
+        held[i] = got.word;
+        words[i] = got.word;
         x = base::add(x, 1);
+        guess = got.place;
         i += 1;
     }
     Accesses {
@@ -48,7 +49,7 @@ pub fn read_up(addresses: &[u64], values: &[u64], count: usize, start: u64, n: u
     }
 }
 
-// The n words at start, start - 1, ..
+// The n words at start, start - 1, .., likewise.
 pub fn read_down(addresses: &[u64], values: &[u64], count: usize, start: u64, n: usize) -> Accesses
     requires { ⌜ Cells10 (cells count (now addresses) (now values)) start n ⌝ }
     ensures { λ r. ⌜ ReadDown (cells count (now (addresses .entry)) (now (values .entry))) start n r ⌝ }
@@ -57,13 +58,15 @@ pub fn read_down(addresses: &[u64], values: &[u64], count: usize, start: u64, n:
     let mut held = [0u64; 10];
     let mut words = [0u64; 16];
     let mut x = start;
+    let mut guess = 0;
     let mut i = 0;
     while i < n {
-        let v = ram::read(addresses, values, count, x);
+        let got = near::read(addresses, values, count, x, guess);
         at[i] = x;
-        held[i] = v;
-        words[i] = v;
+        held[i] = got.word;
+        words[i] = got.word;
         x = base::sub(x, 1);
+        guess = got.place;
         i += 1;
     }
     Accesses {

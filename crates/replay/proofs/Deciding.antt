@@ -1,29 +1,28 @@
 -- What two sweeps say of the records, from which the call decides; and what the call then gives. Assumes nothing.
-use mathlib.Core.Path.{_≡_, refl, sym, ap, _∙_}
-use mathlib.Core.Bool.{Bool, true, false}
+use mathlib.Core.Path.{_≡_, refl, sym, _∙_}
+use mathlib.Core.Bool.{false}
 use mathlib.Core.List.{List, [], _∷_, _++_, append-assoc, append-nil}
-use Prim.Native.Nat.{ℕ, zero, suc, _+_, _-_, _≤_, _<_}
+use Prim.Native.Nat.{ℕ, _+_, _-_, _≤_, _<_}
 use native.Mathlib.Omega.{arith}
-use borrow.Author.Tests.{eq-eqb, ne-eqb}
-use lib.ListN.{length, drop, replicate}
+use borrow.Author.Tests.{ne-eqb, eqb-true}
+use lib.ListN.{length, replicate}
 use lib.Dec.{eqb}
 use Rattle.machine.specs.Words.{p}
-use Rattle.machine.specs.Choice.{cond}
 use Rattle.machine.specs.Ram.{Cells, cells}
-use Rattle.machine.specs.Records.{Record, other, stack, ram}
+use Rattle.machine.specs.Records.{Record, stack}
 use Rattle.replay.specs.declared.group.Sweep.{Sweep}
 use Rattle.replay.specs.declared.scan.Scan.{Scan}
 use Rattle.replay.specs.declared.replay.Answer.{Answer}
-use Rattle.replay.specs.Replay.{Built, built, Went, bad, fine, Replayed, gives, refuses, finished, replayA, replayBytes, replayOf}
-use Rattle.replay.specs.LastWrite.{wroteAll}
+use Rattle.replay.specs.Replay.{built, Went, bad, fine, gives, refuses, finished, replayA, replayOf}
 use Rattle.replay.specs.Walk.{Walk, Walked}
-use Rattle.replay.specs.Group.{Right, RightAt, WrongAt, Stop, at-end, at-wrong, Came, cellsIn}
+use Rattle.replay.specs.Group.{Right, RightAt, WrongAt, Stop, at-end, at-wrong, cellsIn}
+use Rattle.replay.specs.Merge.{Sorted}
 use Rattle.replay.specs.Group as G
-use Rattle.replay.specs.GroupView.{Opening, Swept, Sweeps}
+use Rattle.replay.specs.GroupView.{Sweeps}
 use Rattle.replay.specs.Scan.{Scanned, Fine, Fines, of-other, of-stack, of-ram}
 use Rattle.replay.specs.Scan as S
 use Rattle.replay.specs.WriteView.{Fitting, Written}
-use Rattle.replay.specs.Decided.{Decided, passes, at-read, at-write, Decides}
+use Rattle.replay.specs.Decided.{Decided, passes, at-read, at-write, Decides, Left, Scans, Rebuilds}
 use Rattle.replay.specs.ReplayView.{replayedBy}
 use Rattle.replay.proofs.Verdicts.{All}
 use Rattle.replay.proofs.Verdicts as W
@@ -33,7 +32,7 @@ use Rattle.replay.proofs.WalkLaws.{walk-place}
 use Rattle.replay.proofs.GroupLaws.{apart}
 use Rattle.replay.proofs.PlaceALaws.{accepted}
 use Rattle.replay.proofs.Joined.{Worded, worded-other, worded-stack, worded-ram}
-use Rattle.replay.proofs.Decisions.{decided-well, decided-fits, decided-bad}
+use Rattle.replay.proofs.Decisions.{decided-well, decided-bad}
 
 -- ---- two sweeps
 
@@ -56,7 +55,7 @@ pub record Short (log : List ℕ) (c : Cells) (rs : List Record) (end : ℕ) : T
   pub right : Right 0 p c [] done
   pub wrong : WrongAt 0 p c done one
 
-module _ {log : List ℕ} {to : ℕ} {c : Cells} {rs : List Record} {r : Sweep} (long : to ≤ length log) (walk : Walk log 0 to rs) (sweep : Sweeps log to c r) where
+module _ {log : List ℕ} {to : ℕ} {c : Cells} {ks vs s v : List ℕ} {rs : List Record} {r : Sweep} (long : to ≤ length log) (walk : Walk log 0 to rs) (sweep : Sweeps log to c ks vs s v r) where
   -- it came to its end
   pub whole : r .end ≡ to → Right 0 p c [] rs × (r .cells ≡ cellsIn 0 p c [] rs)
   whole e =
@@ -71,7 +70,7 @@ module _ {log : List ℕ} {to : ℕ} {c : Cells} {rs : List Record} {r : Sweep} 
       go : (done : List Record) → Walk log 0 (r .end) done → (rest : List Record) → rs ≡ done ++ rest → Right 0 p c [] done → Stop 0 p c done rest → Short log c rs (r .end)
       go done w [] j h at-end =
           let e : rs ≡ done = j ∙ append-nil done in
-          absurd (n (walk-place (omega (arith, sweep .inside)) long w (rw (← e) walk)))
+          absurd (n (walk-place (omega (arith, sweep .within)) long w (rw (← e) walk)))
       go done w (x ∷ xs) j h (at-wrong i) = record { done = done; one = x; rest = xs; walk = w; joined = j; right = h; wrong = i }
 
   -- right records have no wrong read, so it comes to its end
@@ -81,18 +80,18 @@ module _ {log : List ℕ} {to : ℕ} {c : Cells} {rs : List Record} {r : Sweep} 
       go : (done : List Record) → Walk log 0 (r .end) done → (rest : List Record) → rs ≡ done ++ rest → Stop 0 p c done rest → (r .end ≡ to → r .cells ≡ cellsIn 0 p c [] rs) → r .cells ≡ cellsIn 0 p c [] rs
       go done w [] j at-end t =
           let e : rs ≡ done = j ∙ append-nil done in
-          t (walk-place (omega (arith, sweep .inside)) long w (rw (← e) walk))
+          t (walk-place (omega (arith, sweep .within)) long w (rw (← e) walk))
       go done w (x ∷ xs) j (at-wrong i) t = absurd (not-both (right-at [] done x xs (rw j at h)) i)
 
 -- the records before its end
-pub walked-again : {log : List ℕ} {to : ℕ} {c : Cells} {r : Sweep} → Walked log to → Sweeps log to c r → Walked log (r .end)
+pub walked-again : {log : List ℕ} {to : ℕ} {c : Cells} {ks vs s v : List ℕ} {r : Sweep} → Walked log to → Sweeps log to c ks vs s v r → Walked log (r .end)
 walked-again w h =
     let s = h .swept (w .records) (w .walk) in
-    record { records = s .done; walk = s .walk; ends = omega (arith, h .inside, w .ends) }
+    record { records = s .done; walk = s .walk; ends = omega (arith, h .within, w .ends) }
 
 -- ---- the decision
 
-module _ {log : List ℕ} {to number room : ℕ} {c : Cells} {r : Sweep} (long : to ≤ length log) (sweep : Sweeps log to c r) (used : c .count ≤ length (c .addresses)) (left : room ≡ length (c .addresses) - c .count) where
+module _ {log : List ℕ} {to number room : ℕ} {c : Cells} {ks vs s v : List ℕ} {r : Sweep} (long : to ≤ length log) (sweep : Sweeps log to c ks vs s v r) (used : c .count ≤ length (c .addresses)) (left : room ≡ length (c .addresses) - c .count) where
   pub decide-full : r .end ≡ to → room < r .cells → Decides log to number c 44
   decide-full e h =
       record {
@@ -111,14 +110,14 @@ module _ {log : List ℕ} {to number room : ℕ} {c : Cells} {r : Sweep} (long :
             passes (k .0) (omega (arith, k .1));
       }
 
-  module _ {q : Sweep} (second : Sweeps log (r .end) c q) (n : r .end ≡ to → ⊥) where
+  module _ {ks2 vs2 s2 v2 : List ℕ} {q : Sweep} (second : Sweeps log (r .end) c ks2 vs2 s2 v2 q) (n : r .end ≡ to → ⊥) where
     pub decide-room : room < q .cells → Decides log to number c 44
     decide-room h =
         record {
           decided =
               λ rs w.
               let k = short long w sweep n in
-              let i = again (omega (arith, sweep .inside)) (k .walk) second (k .right) in
+              let i = again (omega (arith, sweep .within)) (k .walk) second (k .right) in
               at-write (k .done) (k .one ∷ k .rest) (k .joined) (k .right) (omega arith);
         }
 
@@ -128,7 +127,7 @@ module _ {log : List ℕ} {to number room : ℕ} {c : Cells} {r : Sweep} (long :
           decided =
               λ rs w.
               let k = short long w sweep n in
-              let i = again (omega (arith, sweep .inside)) (k .walk) second (k .right) in
+              let i = again (omega (arith, sweep .within)) (k .walk) second (k .right) in
               at-read (k .done) (k .rest) (k .one) (k .joined) (k .right) (k .wrong) (omega arith);
         }
 
@@ -154,15 +153,27 @@ call-refused log s c j n r e h (a, d, k) =
     rw (z, a, d, k, e)
 
 -- and place A accepts it
-pub opens : (log s : List ℕ) (c : Cells) (fault : ℕ) → fault ≡ replayA log c s → fault ≡ 0 → Opening c
-opens log s c fault e z = let k = accepted log c s (sym e ∙ z) .sound in record { used = k .used; paired = k .pair; once = k .once }
+pub opens : (log s : List ℕ) (c : Cells) (fault : ℕ) → fault ≡ replayA log c s → fault ≡ 0 → Sorted c
+opens log s c fault e z =
+    let k = accepted log c s (sym e ∙ z) .sound in
+    record { usable = record { ordered = record { within = k .used; ascending = k .ascending }; values = omega (arith, k .used, k .pair) }; pair = k .pair }
 
-pub walked : {log s after : List ℕ} {j : ℕ} {r : Scan} → Scanned log s j after r → Walked log (r .end)
-walked h = record { records = h .records; walk = h .walk; ends = h .inside }
+pub scans : {log s after : List ℕ} {j : ℕ} {r : Scan} {c : Cells} → Scanned log s j after r → Sorted c → Scans log (r .end) c
+scans h o = record { records = h .records; walk = h .walk; ends = h .inside; fine = h .fine; sorted = o }
+
+-- number 0: the cells that the records take have room
+decided-room : {c : Cells} {rs : List Record} {number r : ℕ} → Decided c rs number r → r ≡ 0 → c .count + cellsIn 0 p c [] rs ≤ length (c .addresses)
+decided-room (passes h l) e = l
+decided-room (at-read d u q f g w m) e = absurd (omega arith)
+decided-room (at-write d u f g m) e = absurd (omega arith)
+
+pub fitting : {log : List ℕ} {to number : ℕ} {c : Cells} {r : ℕ} → Scans log to c → Decides log to number c r → r ≡ 0 → Fitting log to c
+fitting s d e =
+    record { records = s .records; walk = s .walk; ends = s .ends; fine = s .fine; sorted = s .sorted; room = decided-room (d .decided (s .records) (s .walk)) e }
 
 module _ (log s after : List ℕ) (c : Cells) (j fault n : ℕ) (scan : Scan) (fault-is : fault ≡ replayA log c s) (nothing : fault ≡ 0)
     (scanned : Scanned log s j after scan) (decides : Decides log (scan .end) (scan .number) c n) where
-  open-cells : Opening c
+  open-cells : Sorted c
   open-cells = opens log s c fault fault-is nothing
 
   whole-answer : (w : Went) → replayFrom j (built 0 16 s c) log ≡ w → replayOf log c s j ≡ finished w s c
@@ -170,16 +181,29 @@ module _ (log s after : List ℕ) (c : Cells) (j fault n : ℕ) (scan : Scan) (f
   whole-answer w e = let z : replayA log c s ≡ 0 = sym fault-is ∙ nothing in rw (z, e)
 
   -- it is refused, and the stack slice is cleared
-  pub call-wrong : (n ≡ 0 → ⊥) → (zeros : List ℕ) (r : Answer) → length after ≡ length s → zeros ≡ replicate (length after) 0 →
-      (r .number ≡ n) × (r .depth ≡ 0) × (r .cells ≡ 0) → replayedBy r zeros c ≡ replayOf log c s j
-  call-wrong h zeros r l z (a, d, k) =
+  pub call-wrong : (n ≡ 0 → ⊥) → (d : Cells) → d ≡ c → (zeros : List ℕ) (r : Answer) → length after ≡ length s → zeros ≡ replicate (length after) 0 →
+      (r .number ≡ n) × (r .depth ≡ 0) × (r .cells ≡ 0) → replayedBy r zeros d ≡ replayOf log c s j
+  call-wrong h m q zeros r l z (a, d, k) =
       let o : zeros ≡ s = z ∙ rw l (sym (accepted log c s (sym fault-is ∙ nothing) .zeros)) in
-      rw (whole-answer (bad n) (decided-bad (scanned .walk) (scanned .rests c) (scanned .ends c) (words-of (scanned .fine)) (open-cells .paired) (open-cells .used) (decides .decided (scanned .records) (scanned .walk)) h), o, a, d, k)
-
-  pub call-fits : n ≡ 0 → Fitting log (scan .end) c
-  call-fits h = decided-fits (scanned .walk) (scanned .rests c) (scanned .ends c) (words-of (scanned .fine)) (open-cells .paired) (open-cells .used) (scanned .inside) (decides .decided (scanned .records) (scanned .walk)) h
+      rw (q, whole-answer (bad n) (decided-bad (scanned .walk) (scanned .rests c) (scanned .ends c) (words-of (scanned .fine)) (open-cells .pair) (open-cells .usable .ordered .within) (decides .decided (scanned .records) (scanned .walk)) h), o, a, d, k)
 
   -- it is rebuilt
   pub call-right : n ≡ 0 → (k : ℕ) (a v : List ℕ) → Written log (scan .end) c (cells k a v) → replayedBy (answer 0 (scan .depth) k) after (cells k a v) ≡ replayOf log c s j
   call-right h k a v w =
-      rw (whole-answer _ (decided-well (scanned .walk) (scanned .rests c) (scanned .ends c) (words-of (scanned .fine)) (open-cells .paired) (open-cells .used) (decides .decided (scanned .records) (scanned .walk)) h), ← w .is (scanned .records) (scanned .walk))
+      rw (whole-answer _ (decided-well (scanned .walk) (scanned .rests c) (scanned .ends c) (words-of (scanned .fine)) (open-cells .pair) (open-cells .usable .ordered .within) (decides .decided (scanned .records) (scanned .walk)) h), ← w .is (scanned .records) (scanned .walk))
+
+-- ---- the table that is left
+
+pub left-none : (log : List ℕ) (to : ℕ) (t : Cells) (s v : List ℕ) → Left log to false t s v
+left-none log to t s v = record { table = λ e. absurd (apart (sym e)) }
+
+pub left-whole : {log : List ℕ} {to : ℕ} {c : Cells} {ks vs s v : List ℕ} {r : Sweep} → Sweeps log to c ks vs s v r → r .end ≡ to → Left log to (eqb (r .groups) 1) (cells (r .n) ks vs) s v
+left-whole {r = r} h e = record { table = λ q rs w. h .whole (eqb-true (r .groups) 1 q) e rs w }
+
+-- ---- decided and written
+
+pub rebuilt-not : {log : List ℕ} {to number : ℕ} {c : Cells} {r : ℕ} → Decides log to number c r → (r ≡ 0 → ⊥) → Rebuilds log to number c r c
+rebuilt-not d h = record { decides = d; written = λ e. absurd (h e); kept = λ _. refl }
+
+pub rebuilt : {log : List ℕ} {to number : ℕ} {c : Cells} {r : ℕ} {d : Cells} → Decides log to number c r → r ≡ 0 → Written log to c d → Rebuilds log to number c 0 d
+rebuilt {log} {to} {number} {c} h e w = record { decides = rw e at h; written = λ _. w; kept = λ n. absurd (n refl) }

@@ -1,23 +1,20 @@
 -- What was scanned and decided is what replay answers.
-use mathlib.Core.Path.{_≡_, refl, sym, ap, _∙_}
+use mathlib.Core.Path.{_≡_, _∙_}
 use mathlib.Core.List.{List, [], _∷_, _++_, append-assoc}
-use Prim.Native.Nat.{ℕ, _+_, _≤_, _<_}
+use Prim.Native.Nat.{ℕ, _+_, _≤_}
 use native.Mathlib.Omega.{arith}
 use lib.ListN.{length, drop}
 use Rattle.machine.specs.Words.{p}
-use Rattle.machine.specs.Ram.{Cells, stored}
-use Rattle.machine.specs.Records.{Record, other, stack, ram}
-use Rattle.replay.specs.Replay.{Built, built, goes, readOf, Went, bad, fine}
+use Rattle.machine.specs.Records.{Record}
+use Rattle.replay.specs.Replay.{Built, bad, fine}
 use Rattle.replay.specs.LastWrite.{wroteAll}
 use Rattle.replay.specs.Walk.{Walk}
-use Rattle.replay.specs.Scan.{restOf, Rests, Ends}
+use Rattle.replay.specs.Scan.{Rests, Ends}
 use Rattle.replay.specs.Scan as S
-use Rattle.replay.specs.Group.{Right, WrongAt, cellsIn}
+use Rattle.replay.specs.Group.{Right, cellsIn}
 use Rattle.replay.specs.Decided.{Decided, passes, at-read, at-write}
-use Rattle.replay.specs.WriteView.{Fitting}
-use Rattle.replay.proofs.Verdicts.{Reads, reads-append, All}
+use Rattle.replay.proofs.Verdicts.{Reads, All}
 use Rattle.replay.proofs.Verdicts as W
-use Rattle.replay.proofs.LastWrite.{Turned, turned, Since-open, cells-after}
 use Rattle.replay.proofs.Bytes.{replayFrom}
 use Rattle.replay.proofs.Decide.{strip}
 use Rattle.replay.proofs.Joined.{Worded, fit, over, Refuses, refuse-read, walk-on, walk-refused, ends-well, ends-bad}
@@ -39,33 +36,8 @@ all-part : {P : Record → Type 0} (rs ss : List Record) → All P (rs ++ ss) �
 all-part [] ss h = W.none
 all-part (r ∷ rs) ss (W.more q h) = W.more q (all-part rs ss h)
 
-record Halved (j : ℕ) (o b : Built) (rs ss : List Record) : Type 0 where
-  mid : Built
-  first : Reads j o rs mid
-
-reads-part : {j : ℕ} {o b : Built} (rs ss : List Record) → Reads j o (rs ++ ss) b → Halved j o b rs ss
-reads-part {o = o} [] ss h = record { mid = o; first = W.Reads.none }
-reads-part (r ∷ rs) ss (W.Reads.more e h) = let k = reads-part rs ss h in record { mid = k .mid; first = W.Reads.more e (k .first) }
-
 refuses-more : {j n : ℕ} {o : Built} (rs ss : List Record) → Refuses j o rs n → Refuses j o (rs ++ ss) n
 refuses-more rs ss h = record { done = h .done; rest = h .rest ++ ss; one = h .one; stand = h .stand; joined = rw (h .joined) (append-assoc (h .done) (h .one ∷ h .rest) ss); reads = h .reads; says = h .says }
-
--- ---- the cells have room all the way
-
-turned-fits : {k m : Cells} {x : Record} → Turned k x m → k .count ≤ length (k .addresses) → m .count ≤ length (k .addresses)
-turned-fits Turned.by-other h = h
-turned-fits Turned.by-stack h = h
-turned-fits Turned.by-read h = h
-turned-fits (Turned.by-write r) h = r
-
-reads-fit : {j : ℕ} {b c : Built} {rs : List Record} → Reads j b rs c → length (b .cells .addresses) ≡ length (b .cells .values) → b .cells .count ≤ length (b .cells .addresses) → c .cells .count ≤ length (b .cells .addresses)
-reads-fit W.Reads.none q h = h
-reads-fit {j} {b} {c} {rs} (W.Reads.more {c = d} {r = r} e m) q h =
-    let t = turned j b d r e in
-    let one : Reads j b (r ∷ []) d = W.Reads.more e W.Reads.none in
-    let s = cells-after one q in
-    let i = reads-fit m (s .pair) (rw (s .room) (turned-fits t h)) in
-    rw (s .room) at i
 
 -- ---- what is scanned and decided
 
@@ -75,27 +47,11 @@ module _ {log : List ℕ} {j to n : ℕ} {o z : Built} {rs : List Record} (walk 
   all-read : Right 0 p (o .cells) [] rs → o .cells .count + cellsIn 0 p (o .cells) [] rs ≤ length (o .cells .addresses) → Reads j o rs (strip (wroteAll (o .cells) rs) z)
   all-read h l = fit o z (o .cells) rs W.Reads.none pair rests words h l
 
-  -- number 0: it is rebuilt, and the writes have room
+  -- number 0: it is rebuilt
   pub decided-well : {r : ℕ} → Decided (o .cells) rs n r → r ≡ 0 → replayFrom j o log ≡ fine (strip (wroteAll (o .cells) rs) z)
   decided-well (passes h l) e = walk-on walk (all-read h l) ∙ ends-well j n (wroteAll (o .cells) rs) z (drop to log) ends e
   decided-well (at-read d u q f g w m) e = absurd (omega arith)
   decided-well (at-write d u f g m) e = absurd (omega arith)
-
-  pub decided-fits : {r : ℕ} → to ≤ length log → Decided (o .cells) rs n r → r ≡ 0 → Fitting log to (o .cells)
-  decided-fits i (passes h l) e =
-      record {
-        records = rs;
-        walk = walk;
-        ends = i;
-        used = room;
-        pair = pair;
-        fits =
-            λ d u f.
-            let k = reads-part d u (rw f at (all-read h l)) in
-            rw (cells-after (k .first) pair .is) at (reads-fit (k .first) pair room);
-      }
-  decided-fits i (at-read d u q f g w m) e = absurd (omega arith)
-  decided-fits i (at-write d u f g m) e = absurd (omega arith)
 
   -- another: it is the answer
   pub decided-bad : {r : ℕ} → Decided (o .cells) rs n r → (r ≡ 0 → ⊥) → replayFrom j o log ≡ bad r

@@ -135,15 +135,30 @@ module _ {lo hi : ℕ} {c : Cells} where
   right-first [] ys h = none
   right-first (x ∷ xs) ys (more h k) = more h (right-first xs ys k)
 
+-- what is right for a group is right for a smaller one
+module _ (lo mid hi : ℕ) (h : mid ≤ hi) {c : Cells} where
+  right-less-at : {done : List Record} {r : Record} → RightAt lo hi c done r → RightAt lo mid c done r
+  right-less-at of-other = of-other
+  right-less-at of-stack = of-stack
+  right-less-at of-write = of-write
+  right-less-at (RightAt.of-read e) = RightAt.of-read e
+  right-less-at (of-outside {a = a} e) = of-outside (go (inside lo mid a) refl)
+    where
+      go : (x : Bool) → inside lo mid a ≡ x → inside lo mid a ≡ false
+      go true f =
+          let k = inside-true lo mid a f in
+          absurd (apart (sym (inside-in lo hi a (k .0) (omega arith)) ∙ e))
+      go false f = f
+
+  pub right-less : {done rs : List Record} → Right lo hi c done rs → Right lo mid c done rs
+  right-less none = none
+  right-less (more x xs) = more (right-less-at x) (right-less xs)
+
 module _ (lo hi : ℕ) (c : Cells) where
   pub cells-append : (done xs ys : List Record) → cellsIn lo hi c done (xs ++ ys) ≡ cellsIn lo hi c done xs + cellsIn lo hi c (done ++ xs) ys
   unfolding cellsIn
   cells-append done [] ys = rw append-nil (omega arith)
   cells-append done (x ∷ xs) ys = omega (arith, cells-append (done ++ (x ∷ [])) xs ys, ap (λ (d : List Record). cellsIn lo hi c d ys) (append-assoc done (x ∷ []) xs))
-
-  pub cells-snoc : (done : List Record) (r : Record) → cellsIn lo hi c [] (done ++ (r ∷ [])) ≡ cellsIn lo hi c [] done + newIn lo hi c done r
-  unfolding cellsIn
-  cells-snoc done r = omega (arith, cells-append [] done (r ∷ []))
 
   new-few : (done : List Record) (r : Record) → newIn lo hi c done r ≤ 1
   unfolding newIn

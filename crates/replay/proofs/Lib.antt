@@ -20,9 +20,13 @@ pub mod ScanLaws
 pub mod Scans
 pub mod WalkLaws
 pub mod GroupLaws
+pub mod CellsLaws
+pub mod StoresLaws
+pub mod MergeLaws
+pub mod CountLaws
+pub mod WroteLaws
 pub mod TableLaws
 pub mod TurnLaws
-pub mod LoadLaws
 pub mod PassLaws
 pub mod SweepLaws
 pub mod WriteLaws

@@ -1,58 +1,106 @@
--- Going over a log for one group: a turn of the loop, its end, and the opening in place of the loaded table. Assumes nothing.
+-- Going over a log for one group: a turn of the loop, and its end. Assumes nothing.
 use mathlib.Core.Path.{_≡_, refl, sym, ap, _∙_}
 use mathlib.Core.Bool.{Bool, true, false}
 use mathlib.Core.List.{List, [], _∷_, _++_, append-assoc}
-use Prim.Native.Nat.{ℕ, zero, suc, _+_, _-_, _≤_, _<_}
+use Prim.Native.Nat.{ℕ, _+_, _/_, _≤_, _<_}
 use native.Mathlib.Omega.{arith}
+use borrow.Author.Tests.{ltb-true, ltb-false}
 use lib.ListN.{length}
-use Rattle.machine.specs.Choice.{cond}
-use Rattle.machine.specs.Ram.{Cells, held, has}
-use Rattle.machine.specs.Records.{Record, other, stack, ram}
+use lib.Dec.{ltb}
+use Rattle.machine.specs.Words.{p}
+use Rattle.machine.specs.Ram.{Cells, cells}
+use Rattle.machine.specs.Records.{Record}
 use Rattle.replay.specs.declared.record.Head.{Head}
-use Rattle.replay.specs.declared.group.Pass.{Pass}
 use Rattle.replay.specs.LastWrite.{wroteOf, hadOf}
 use Rattle.replay.specs.RecordView.{recordAt, Headed}
-use Rattle.replay.specs.Walk.{Walk, none}
-use Rattle.replay.specs.Group.{inside, newIn, cellsIn, RightAt, of-other, of-stack, of-write, of-outside, WrongAt, Right, Stop, at-end, at-wrong, Table}
-use Rattle.replay.specs.GroupView.{Touches, Passed, Passes}
+use Rattle.replay.specs.Walk.{Walk, none, Walked}
+use Rattle.replay.specs.Merge.{Merged}
+use Rattle.replay.specs.Group.{Right, at-end, at-wrong}
+use Rattle.replay.specs.Table.{seen, known, Paired, Table, Makes}
+use Rattle.replay.specs.GroupView.{Lent, Touches, Gathered, Gathers}
 use Rattle.replay.proofs.Walks.{walk-append}
 use Rattle.replay.proofs.WalkLaws.{walk-end, Next, walk-next}
-use Rattle.replay.proofs.GroupLaws.{right-snoc, cells-snoc}
-use Rattle.replay.proofs.TableLaws.{turn-right, turn-wrong, turn-cells, turn-table}
+use Rattle.replay.proofs.GroupLaws.{apart, right-snoc, right-less}
+use Rattle.replay.proofs.CellsLaws.{has-none}
+use Rattle.replay.proofs.TableLaws.{sorted-none, Roomy, table-made, turn-right, turn-wrong, turn-still, turn-table, settled-length, table-settled}
 
--- ---- a turn
-
--- of the records rs up to `to` those before the place `at` are right and have made u of the table t
-pub record Onward (log : List ℕ) (to lo hi : ℕ) (t : Cells) (rs : List Record) (at : ℕ) (u : Cells) : Type 0 where
+-- of the records rs up to `to` those before the place `at` made the table; where reads are looked at, they are right
+pub record Onward (log : List ℕ) (to : ℕ) (b : Bool) (lo hi : ℕ) (c : Cells) (rs : List Record) (at : ℕ) (t l : Cells) : Type 0 where
   pub done : List Record
   pub rest : List Record
   pub joined : rs ≡ done ++ rest
   pub gone : Walk log 0 at done
   pub left : Walk log at to rest
-  pub right : Right lo hi t [] done
-  pub table : Table lo hi t done u
-  pub takes : u .count ≡ t .count + cellsIn lo hi t [] done
+  pub right : b ≡ true → Right lo hi c [] done
+  pub table : Table lo hi done t l
 
-pub onward-none : {log : List ℕ} {to lo hi : ℕ} {t : Cells} {rs : List Record} → Table lo hi t [] t → Walk log 0 to rs → Onward log to lo hi t rs 0 t
-unfolding cellsIn
-onward-none {rs = rs} k w = record { done = []; rest = rs; joined = refl; gone = none; left = w; right = Right.none; table = k; takes = omega arith }
+-- ---- no record
 
-module _ {log : List ℕ} {to lo hi : ℕ} {t : Cells} {rs : List Record} {at : ℕ} {u : Cells} (o : Onward log to lo hi t rs at u) where
-  pub onward-end : to ≤ at → Passed log lo hi t rs at (u .count - t .count)
+pub table-none : (lo hi : ℕ) (ks vs s v : List ℕ) → length ks ≡ length vs → length s ≡ length v → Table lo hi [] (cells 0 ks vs) (cells 0 s v)
+unfolding wroteOf hadOf seen known
+table-none lo hi ks vs s v h k =
+    record {
+      seen-is = λ a e x. rw (has-none ks vs a, has-none s v a);
+      known-is = λ a e. rw (has-none ks vs a, has-none s v a);
+      only = λ a e. absurd (apart (sym (rw (has-none ks vs a, has-none s v a) at e)));
+      cells =
+          record {
+            table = sorted-none ks vs h;
+            late = sorted-none s v k;
+            apart = λ a _. has-none s v a;
+            room = omega arith;
+          };
+    }
+
+pub onward-none : {log : List ℕ} {to : ℕ} (b : Bool) (lo hi : ℕ) (c : Cells) {rs : List Record} {ks vs s v : List ℕ} → Lent ks vs s v → Walk log 0 to rs → Onward log to b lo hi c rs 0 (cells 0 ks vs) (cells 0 s v)
+onward-none b lo hi c {rs} {ks} {vs} {s} {v} l w =
+    record {
+      done = [];
+      rest = rs;
+      joined = refl;
+      gone = none;
+      left = w;
+      right = λ _. Right.none;
+      table = table-none lo hi ks vs s v (l .pair) (l .late);
+    }
+
+-- ---- a turn
+
+-- room made
+pub onward-made : {log : List ℕ} {to : ℕ} {b : Bool} {lo hi : ℕ} {c : Cells} {rs : List Record} {at : ℕ} {t : Cells} {n : ℕ} {s v : List ℕ} {u : Cells} {m y : ℕ} →
+    (o : Onward log to b lo hi c rs at t (cells n s v)) → Roomy lo hi (o .done) t s v u m y → Onward log to b lo y c rs at u (cells m s v)
+onward-made {lo = lo} {hi} {c} {y = y} o r =
+    record {
+      done = o .done;
+      rest = o .rest;
+      joined = o .joined;
+      gone = o .gone;
+      left = o .left;
+      right = λ e. right-less lo y hi (r .below) (o .right e);
+      table = r .table;
+    }
+
+module _ {log : List ℕ} {to : ℕ} {b : Bool} {lo hi : ℕ} {c : Cells} {rs : List Record} {at : ℕ} {t l : Cells} (o : Onward log to b lo hi c rs at t l) where
+  pub onward-end : to ≤ at → Gathered log b lo hi c rs at t l
   onward-end h =
       record {
         done = o .done;
+        rest = o .rest;
+        joined = o .joined;
         walk = o .gone;
-        came = record { rest = o .rest; joined = o .joined; right = o .right; stop = rw (walk-end (o .left) h) at-end };
-        takes = omega (arith, o .takes);
+        table = o .table;
+        right = o .right;
+        stop = λ _. rw (walk-end (o .left) h) at-end;
+        all = λ _. walk-end (o .left) h;
       }
 
-  module _ (h : Head) (g : Headed log at h) (m : to ≤ length log) (l : at < to) where
+  module _ (h : Head) (g : Headed log at h) (m : to ≤ length log) (i : at < to) where
     pub next : Next log at to (o .rest) h
-    next = walk-next h g m l (o .left)
+    next = walk-next h g m i (o .left)
 
-    pub onward-next : {n : ℕ} {w : Cells} → Touches lo hi u (recordAt log at (h .kind)) n w → n ≡ 0 → Onward log to lo hi t rs (at + h .size + 2) w
-    onward-next b z =
+    pub onward-next : {w : Bool} {u y : Cells} → Touches b lo hi c t l (recordAt log at (h .kind)) w u y → w ≡ false → l .count < length (l .addresses) → t .count + l .count < length (t .addresses) →
+        Onward log to b lo hi c rs (at + h .size + 2) u y
+    onward-next f z j k =
         let r = recordAt log at (h .kind) in
         let e : at + (h .size + 2) ≡ at + h .size + 2 = omega arith in
         record {
@@ -61,82 +109,115 @@ module _ {log : List ℕ} {to lo hi : ℕ} {t : Cells} {rs : List Record} {at : 
           joined = o .joined ∙ ap (λ (x : List Record). o .done ++ x) (next .is) ∙ sym (append-assoc (o .done) (r ∷ []) (next .rest));
           gone = rw e at (walk-append (h .size + 2) (o .gone) (next .parsed) (omega arith));
           left = next .walk;
-          right = right-snoc (o .right) (turn-right (o .table) b z);
-          table = turn-table (o .table) b z;
-          takes = omega (arith, o .takes, turn-cells (o .table) b z, cells-snoc lo hi t (o .done) r);
+          right = λ q. right-snoc (o .right q) (turn-right (o .table) f q z);
+          table = turn-table (o .table) f z j k;
         }
 
-    pub onward-wrong : {n : ℕ} {w : Cells} → Touches lo hi u (recordAt log at (h .kind)) n w → (n ≡ 0 → ⊥) → (n ≡ 2 → ⊥) → Passed log lo hi t rs at (u .count - t .count)
-    onward-wrong b x y =
+    pub onward-wrong : {w : Bool} {u y : Cells} → Touches b lo hi c t l (recordAt log at (h .kind)) w u y → w ≡ true → Gathered log b lo hi c rs at u y
+    onward-wrong f z =
         record {
           done = o .done;
+          rest = o .rest;
+          joined = o .joined;
           walk = o .gone;
-          came = record { rest = o .rest; joined = o .joined; right = o .right; stop = rw (next .is) (at-wrong (turn-wrong (o .table) b x y)) };
-          takes = omega (arith, o .takes);
+          table = turn-still (o .table) f z;
+          right = o .right;
+          stop = λ _. rw (next .is) (at-wrong (turn-wrong (o .table) f z .1));
+          all = λ q. absurd (apart (sym (turn-wrong (o .table) f z .0) ∙ q));
         }
 
--- ---- the opening in place of the table that was loaded from it
+-- ---- the loop
 
-module _ {lo hi : ℕ} {c t : Cells} (k : Table lo hi c [] t) where
-  same-held : (a : ℕ) → inside lo hi a ≡ true → held t a ≡ held c a
-  unfolding wroteOf
-  same-held a e = k .held-is a e
+-- at a place, with n cells in the table and m late ones
+pub record Going (log : List ℕ) (to : ℕ) (b : Bool) (lo hi : ℕ) (c : Cells) (at n : ℕ) (ks vs : List ℕ) (m : ℕ) (s v : List ℕ) : Type 0 where
+  pub within : at ≤ to
+  pub above : lo < hi
+  pub below : hi ≤ p
+  pub lent : Lent ks vs s v
+  pub half : hi < p → length ks / 2 ≤ n
+  pub on : (rs : List Record) → Walk log 0 to rs → Onward log to b lo hi c rs at (cells n ks vs) (cells m s v)
 
-  same-has : (a : ℕ) → inside lo hi a ≡ true → has t a ≡ has c a
-  unfolding hadOf
-  same-has a e = k .has-is a e
+pub going-start : {log : List ℕ} {to : ℕ} (b : Bool) {lo : ℕ} (c : Cells) {ks vs s v : List ℕ} → lo < p → Lent ks vs s v → Going log to b lo p c 0 0 ks vs 0 s v
+going-start b {lo} c h l =
+    record { within = omega arith; above = h; below = omega arith; lent = l; half = λ z. absurd (omega arith); on = λ rs w. onward-none b lo p c l w }
 
-  opened-at : {done : List Record} {r : Record} → RightAt lo hi t done r → RightAt lo hi c done r
-  opened-at of-other = of-other
-  opened-at of-stack = of-stack
-  opened-at of-write = of-write
-  opened-at (of-outside e) = of-outside e
-  opened-at {done} (RightAt.of-read {t = x} {a = a} {v = v} e) = go (inside lo hi a) refl
-    where
-      go : (y : Bool) → inside lo hi a ≡ y → RightAt lo hi c done (ram x a v 0)
-      go true q = RightAt.of-read (e ∙ ap (wroteOf done a) (same-held a q))
-      go false q = of-outside q
+-- with room for one cell more
+pub record Readied (log : List ℕ) (to : ℕ) (b : Bool) (lo hi : ℕ) (c : Cells) (at n : ℕ) (ks vs : List ℕ) (m : ℕ) (s v : List ℕ) : Type 0 where
+  pub going : Going log to b lo hi c at n ks vs m s v
+  pub cells : Paired (cells n ks vs) (cells m s v)
+  pub late : m < length s
+  pub room : n + m < length ks
 
-  opened : {done rs : List Record} → Right lo hi t done rs → Right lo hi c done rs
-  opened Right.none = Right.none
-  opened (Right.more h r) = Right.more (opened-at h) (opened r)
+made-half : {y hi n n2 a b : ℕ} → (y < hi → a / 2 ≤ n2) → (y ≡ hi → n ≤ n2) → (hi < p → a / 2 ≤ n) → y ≤ hi → b ≡ a → y < p → b / 2 ≤ n2
+made-half {y} {hi} {n} {n2} {a} {b} f g h l e z = go (ltb y hi) refl
+  where
+    go : (t : Bool) → ltb y hi ≡ t → b / 2 ≤ n2
+    go true q = rw e (f (ltb-true y hi q))
+    go false q =
+        let k : y ≡ hi = omega (arith, ltb-false y hi q) in
+        let x : hi < p = omega arith in
+        rw e (omega (arith, g k, h x))
 
-  opened-wrong : {done : List Record} {r : Record} → WrongAt lo hi t done r → WrongAt lo hi c done r
-  opened-wrong {done} (WrongAt.of-read {a = a} e n) = WrongAt.of-read e (λ f. n (f ∙ ap (wroteOf done a) (sym (same-held a e))))
+pub going-made : {log : List ℕ} {to : ℕ} {b : Bool} {lo hi : ℕ} {c : Cells} {at n : ℕ} {ks vs : List ℕ} {m : ℕ} {s v : List ℕ} {n2 : ℕ} {ks2 vs2 : List ℕ} {m2 y : ℕ} →
+    Walked log to → Going log to b lo hi c at n ks vs m s v → Makes (cells n ks vs) (cells m s v) hi (cells n2 ks2 vs2) m2 y → Readied log to b lo y c at n2 ks2 vs2 m2 s v
+going-made {n = n} {ks} {vs} {s = s} {v} w g k =
+    let o = g .on (w .records) (w .walk) in
+    let r = table-made (o .table) k (g .above) (g .lent .two) (g .lent .some) in
+    record {
+      going =
+          record {
+            within = g .within;
+            above = r .above;
+            below = omega (arith, r .below, g .below);
+            lent = record { two = omega (arith, r .same, g .lent .two); pair = r .table .cells .table .pair; some = g .lent .some; late = g .lent .late };
+            half = λ z. made-half (r .half) (r .more) (g .half) (r .below) (r .same) z;
+            on = λ rs q. let x = g .on rs q in onward-made x (table-made (x .table) k (g .above) (g .lent .two) (g .lent .some));
+          };
+      cells = r .table .cells;
+      late = r .late;
+      room = r .room;
+    }
 
-  opened-stop : {done rs : List Record} → Stop lo hi t done rs → Stop lo hi c done rs
-  opened-stop at-end = at-end
-  opened-stop (at-wrong w) = at-wrong (opened-wrong w)
+pub going-next : {log : List ℕ} {to : ℕ} {b : Bool} {lo hi : ℕ} {c : Cells} {at n : ℕ} {ks vs : List ℕ} {m : ℕ} {s v : List ℕ} {w : Bool} {vs2 : List ℕ} {m2 : ℕ} {s2 v2 : List ℕ} →
+    (h : Head) → Headed log at h → Walked log to → at < to → (r : Readied log to b lo hi c at n ks vs m s v) →
+    Touches b lo hi c (cells n ks vs) (cells m s v) (recordAt log at (h .kind)) w (cells n ks vs2) (cells m2 s2 v2) → w ≡ false →
+    length vs2 ≡ length vs → length s2 ≡ length s → length v2 ≡ length v → Going log to b lo hi c (at + h .size + 2) n ks vs2 m2 s2 v2
+going-next h g q i r t z e f k =
+    let x = r .going .on (q .records) (q .walk) in
+    let y = next x h g (q .ends) i in
+    record {
+      within = omega (arith, y .fits);
+      above = r .going .above;
+      below = r .going .below;
+      lent = record { two = r .going .lent .two; pair = omega (arith, r .going .lent .pair); some = omega (arith, r .going .lent .some); late = omega (arith, r .going .lent .late) };
+      half = r .going .half;
+      on = λ rs w. onward-next (r .going .on rs w) h g (q .ends) i t z (r .late) (r .room);
+    }
 
-  opened-new : (done : List Record) (r : Record) → newIn lo hi t done r ≡ newIn lo hi c done r
-  unfolding newIn
-  opened-new done (other x s) = refl
-  opened-new done (stack x q d v) = refl
-  opened-new done (ram x a v zero) = refl
-  opened-new done (ram x a v (suc d)) = go (inside lo hi a) refl
-    where
-      go : (y : Bool) → inside lo hi a ≡ y → _≡_ {A = ℕ} (cond y (cond (hadOf done a (has t a)) 0 1) 0) (cond y (cond (hadOf done a (has c a)) 0 1) 0)
-      go true q = rw (same-has a q)
-      go false q = refl
+-- ---- the late cells merged
 
-  opened-cells : (done rs : List Record) → cellsIn lo hi t done rs ≡ cellsIn lo hi c done rs
-  unfolding cellsIn
-  opened-cells done [] = refl
-  opened-cells done (r ∷ rs) = omega (arith, opened-new done r, opened-cells (done ++ (r ∷ [])) rs)
-
-  opened-passed : {log : List ℕ} {rs : List Record} {end n : ℕ} → Passed log lo hi t rs end n → Passed log lo hi c rs end n
-  opened-passed p =
-      record {
-        done = p .done;
-        walk = p .walk;
-        came = record { rest = p .came .rest; joined = p .came .joined; right = opened (p .came .right); stop = opened-stop (p .came .stop) };
-        takes = p .takes ∙ opened-cells [] (p .done);
-      }
-
-  pub opened-passes : {log : List ℕ} {to : ℕ} {r : Pass} → Passes log to lo hi t r → Passes log to lo hi c r
-  opened-passes p = record { inside = p .inside; passed = λ e rs w. opened-passed (p .passed e rs w); narrow = p .narrow }
-
-  -- the table is one of its own cells
-  pub table-self : Table lo hi t [] t
-  unfolding wroteOf hadOf
-  table-self = record { held-is = λ a e. refl; has-is = λ a e. refl; only = k .only; room = k .room; pair = k .pair }
+pub gathers-settled : {log : List ℕ} {to : ℕ} {b : Bool} {lo hi : ℕ} {c : Cells} {end : ℕ} {t : Cells} {m : ℕ} {s v : List ℕ} {d : Cells} →
+    Walked log to → Gathers log to b lo hi c end t (cells m s v) → (d .count ≡ t .count + m) × Merged t (cells m s v) d → Gathers log to b lo hi c end d (cells 0 s v)
+gathers-settled {lo = lo} {hi} {t = t} {m} {s} {v} {d} w g (e, k) =
+    let o = g .gathered (w .records) (w .walk) .table .cells in
+    let n : length (d .addresses) ≡ length (t .addresses) = rw (k .is) (settled-length o) in
+    record {
+      above = g .above;
+      below = g .below;
+      within = g .within;
+      half = λ z. rw n (omega (arith, g .half z));
+      gathered =
+          λ rs q.
+          let x = g .gathered rs q in
+          let y = x .table .cells in
+          record {
+            done = x .done;
+            rest = x .rest;
+            joined = x .joined;
+            walk = x .walk;
+            table = rw (k .is) (table-settled y s v (y .late .pair) (x .table));
+            right = x .right;
+            stop = x .stop;
+            all = x .all;
+          };
+    }

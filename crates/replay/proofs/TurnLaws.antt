@@ -1,4 +1,4 @@
--- What one record does to a group's table, by what the code reads of it. Assumes nothing.
+-- A record for a group, by the fields that are read. Assumes nothing.
 use mathlib.Core.Path.{_≡_, refl}
 use mathlib.Core.Bool.{Bool, true, false}
 use mathlib.Core.List.{List}
@@ -11,18 +11,19 @@ use Rattle.machine.specs.Records.{Record, ram, lengthOf, recordOf}
 use Rattle.replay.specs.declared.record.Fields.{Fields}
 use Rattle.replay.specs.RecordView.{recordAt, OfRam}
 use Rattle.replay.specs.Group.{inside}
-use Rattle.replay.specs.GroupView.{Puts, Touches, by-other, by-stack, by-outside, by-right, by-wrong, by-write}
+use Rattle.replay.specs.Table.{seen, Puts}
+use Rattle.replay.specs.GroupView.{Touches, by-other, by-stack, by-outside, by-unchecked, by-right, by-wrong, by-write}
 
 pub ram-long : (kind : ℕ) → kind ≡ 5 → lengthOf kind ≡ 23
 unfolding lengthOf
 ram-long kind k = rw k
 
-module _ (lo hi : ℕ) (t : Cells) where
-  pub not-ram : (kind : ℕ) (b : List ℕ) → (kind ≡ 5 → ⊥) → Touches lo hi t (recordOf kind b) 0 t
+module _ (b : Bool) (lo hi : ℕ) (c t l : Cells) where
+  pub not-ram : (kind : ℕ) (s : List ℕ) → (kind ≡ 5 → ⊥) → Touches b lo hi c t l (recordOf kind s) false t l
   unfolding recordOf
-  not-ram kind b h = rw (ne-eqb kind 5 h) (go (eqb kind 4) by-stack by-other)
+  not-ram kind s h = rw (ne-eqb kind 5 h) (go (eqb kind 4) by-stack by-other)
     where
-      go : (x : Bool) {q r : Record} → Touches lo hi t q 0 t → Touches lo hi t r 0 t → Touches lo hi t (cond x q r) 0 t
+      go : (x : Bool) {q r : Record} → Touches b lo hi c t l q false t l → Touches b lo hi c t l r false t l → Touches b lo hi c t l (cond x q r) false t l
       go true f g = f
       go false f g = g
 
@@ -31,19 +32,22 @@ module _ (lo hi : ℕ) (t : Cells) where
     unfolding lengthOf
     ram-is = rw k (o .is)
 
-    pub ram-outside : inside lo hi (f .place) ≡ false → Touches lo hi t (recordAt s at kind) 0 t
+    pub ram-outside : inside lo hi (f .place) ≡ false → Touches b lo hi c t l (recordAt s at kind) false t l
     ram-outside e = rw ram-is (by-outside e)
 
-    pub ram-write : {n : ℕ} {u : Cells} → inside lo hi (f .place) ≡ true → (f .dir ≡ 0 → ⊥) → Puts t (f .place) (f .value) n u → Touches lo hi t (recordAt s at kind) n u
-    ram-write {n} {u} e h p = rw ram-is (go (f .dir) h)
+    pub ram-write : {u m : Cells} → inside lo hi (f .place) ≡ true → (f .dir ≡ 0 → ⊥) → Puts t l (f .place) (f .value) u m → Touches b lo hi c t l (recordAt s at kind) false u m
+    ram-write {u} {m} e h p = rw ram-is (go (f .dir) h)
       where
-        go : (d : ℕ) → (d ≡ 0 → ⊥) → Touches lo hi t (ram (f .clock) (f .place) (f .value) d) n u
+        go : (d : ℕ) → (d ≡ 0 → ⊥) → Touches b lo hi c t l (ram (f .clock) (f .place) (f .value) d) false u m
         go zero h = absurd (h refl)
         go (suc d) h = by-write e p
 
-    module _ (e : inside lo hi (f .place) ≡ true) (d : f .dir ≡ 0) where
-      pub ram-right : f .value ≡ held t (f .place) → Touches lo hi t (recordAt s at kind) 0 t
-      ram-right h = rw (ram-is, d) (by-right e h)
+    module _ (d : f .dir ≡ 0) where
+      pub ram-unchecked : b ≡ false → Touches b lo hi c t l (recordAt s at kind) false t l
+      ram-unchecked e = rw (ram-is, d) (by-unchecked e)
 
-      pub ram-wrong : (f .value ≡ held t (f .place) → ⊥) → Touches lo hi t (recordAt s at kind) 1 t
-      ram-wrong h = rw (ram-is, d) (by-wrong e h)
+      pub ram-right : f .value ≡ seen t l (f .place) (held c (f .place)) → inside lo hi (f .place) ≡ true → Touches b lo hi c t l (recordAt s at kind) false t l
+      ram-right h e = rw (ram-is, d) (by-right h e)
+
+      pub ram-wrong : b ≡ true → inside lo hi (f .place) ≡ true → (f .value ≡ seen t l (f .place) (held c (f .place)) → ⊥) → Touches b lo hi c t l (recordAt s at kind) true t l
+      ram-wrong h e n = rw (ram-is, d) (by-wrong h e n)

@@ -1,13 +1,12 @@
 -- Replay of RAM's records for a group of addresses: those from lo on and below hi. c are the opening's cells, `done` the
 -- records before.
-use Prim.Native.Nat.{ℕ, zero, suc, _+_, _≤_}
+use Prim.Native.Nat.{ℕ, zero, suc, _+_}
 use mathlib.Core.Path.{_≡_}
 use mathlib.Core.Bool.{Bool, true, false}
 use mathlib.Core.List.{List, [], _∷_, _++_}
-use lib.ListN.{length}
 use lib.Dec.{ltb}
 use Rattle.machine.specs.Choice.{cond}
-use Rattle.machine.specs.Ram.{Cells, held, has}
+use Rattle.machine.specs.Ram.{Cells, cells, held, has}
 use Rattle.machine.specs.Records.{Record, other, stack, ram}
 use Rattle.replay.specs.LastWrite.{wroteOf, hadOf}
 
@@ -57,12 +56,11 @@ pub record Came (lo hi : ℕ) (c : Cells) (rs done : List Record) : Type 0 where
   pub right : Right lo hi c [] done
   pub stop : Stop lo hi c done rest
 
--- ---- the table of the group's cells, t, after the records done
+-- ---- addresses
 
-pub record Table (lo hi : ℕ) (c : Cells) (done : List Record) (t : Cells) : Type 0 where
-  pub held-is : (a : ℕ) → inside lo hi a ≡ true → held t a ≡ wroteOf done a (held c a)
-  pub has-is : (a : ℕ) → inside lo hi a ≡ true → has t a ≡ hadOf done a (has c a)
-  -- it has no other cells
-  pub only : (a : ℕ) → has t a ≡ true → inside lo hi a ≡ true
-  pub room : t .count ≤ length (t .addresses)
-  pub pair : length (t .addresses) ≡ length (t .values)
+abbrev pub noCells : Cells
+noCells = cells 0 [] []
+
+-- how many addresses of the group the records write to
+unfoldable pub distinctIn : ℕ → ℕ → List Record → ℕ
+distinctIn lo hi rs = cellsIn lo hi noCells [] rs

@@ -7,8 +7,11 @@ pub mod RecordView
 pub mod Walk
 pub mod Scan
 pub mod ScanView
+pub mod Merge
 pub mod Group
+pub mod Table
+pub mod TableView
 pub mod GroupView
-pub mod Decided
 pub mod WriteView
+pub mod Decided
 pub mod ReplayView

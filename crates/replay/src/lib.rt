@@ -1,8 +1,9 @@
 // Replay: a call log read back, and the theorem that it rebuilds what the machine had.
 pub mod group;
+pub mod merge;
 pub mod place_a;
-pub mod plan;
 pub mod record;
 pub mod replay;
 pub mod scan;
+pub mod table;
 pub mod write;

@@ -274,7 +274,7 @@ impl Vm {
     /// ST5 is the node's index, ST0 to ST4 its digest.
     fn merkle(&mut self, index: u64, sibling: [u64; 5], calls: &mut Vec<Record>) {
         let node: [u64; 5] = self.pop_words();
-        let (left, right) = if index % 2 == 0 { (node, sibling) } else { (sibling, node) };
+        let (left, right) = if index.is_multiple_of(2) { (node, sibling) } else { (sibling, node) };
         let words = core::array::from_fn(|i| if i < 5 { left[i] } else { right[i - 5] });
         let after = permute(18, fixed(words), calls);
         self.set(0, index / 2);
@@ -334,7 +334,7 @@ impl Vm {
     // ---- RAM
 
     pub(super) fn held(&self, address: u64) -> u64 {
-        self.ram.iter().find(|cell| cell.0 == address).map_or(0, |cell| cell.1)
+        self.ram.get(&address).copied().unwrap_or(0)
     }
 
     fn read(&self, address: u64, calls: &mut Vec<Record>) -> u64 {
@@ -348,12 +348,8 @@ impl Vm {
         core::array::from_fn(|i| self.read(add(address, i as u64), calls))
     }
 
-    /// A new address goes behind the last cell.
     fn write(&mut self, address: u64, value: u64, calls: &mut Vec<Record>) {
-        match self.ram.iter_mut().find(|cell| cell.0 == address) {
-            Some(cell) => cell.1 = value,
-            None => self.ram.push((address, value)),
-        }
+        self.ram.insert(address, value);
         calls.push(Record::Ram { clock: self.clock, address, value, write: true });
     }
 }

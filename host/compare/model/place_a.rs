@@ -60,7 +60,7 @@ pub fn place_a(handed: &Handed, code: Code, memory: MemoryView) -> u64 {
             || has_unused(memory.origins, r[register::JUMPS])
             || has_unused(memory.destinations, r[register::JUMPS])
     });
-    if outside || cells > memory.addresses.len() as u64 || stands_twice(used(memory.addresses, cells)) {
+    if outside || cells > memory.addresses.len() as u64 || !ascend(used(memory.addresses, cells)) {
         return 5;
     }
     0
@@ -87,7 +87,7 @@ fn lengths_fit(handed: &Handed, code: Code, memory: MemoryView) -> bool {
         && code.opcodes.len() == code.arguments.len()
         && memory.origins.len() == memory.destinations.len()
         && memory.addresses.len() == memory.values.len()
-        && code.digests.len() % 5 == 0
+        && code.digests.len().is_multiple_of(5)
 }
 
 /// The words whose index is below the count, or all.
@@ -100,8 +100,7 @@ fn has_unused(slice: &[u64], count: u64) -> bool {
     slice[used(slice, count).len()..].iter().any(|&word| word != 0)
 }
 
-fn stands_twice(addresses: &[u64]) -> bool {
-    let mut sorted = addresses.to_vec();
-    sorted.sort_unstable();
-    sorted.windows(2).any(|pair| pair[0] == pair[1])
+/// Whether each address is above the one before it.
+pub(super) fn ascend(addresses: &[u64]) -> bool {
+    addresses.windows(2).all(|pair| pair[0] < pair[1])
 }

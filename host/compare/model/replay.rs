@@ -1,4 +1,6 @@
-//! Replay on a hash map and plain containers: the model to compare with, and what the benchmark measures against.
+//! Replay on a hash map and plain containers: the model to compare with, and what the benchmark measures against. The cells are
+//! sorted once, at the end.
+use super::place_a::ascend;
 use crate::field::P;
 use kixombu::exports::{replayed, LONGEST};
 use std::collections::HashMap;
@@ -34,9 +36,7 @@ struct Built {
     last: u64,
     /// The words below the top sixteen.
     stack: Vec<u64>,
-    cells: Vec<(u64, u64)>,
-    /// Where an address has its cell.
-    places: HashMap<u64, usize>,
+    ram: HashMap<u64, u64>,
 }
 
 impl Built {
@@ -50,15 +50,11 @@ impl Built {
         if addresses[..used].iter().chain(&values[..used]).any(|&word| word >= P) {
             return Err(2);
         }
-        let mut built = Built { last: 0, stack: vec![], cells: Vec::with_capacity(used), places: HashMap::with_capacity(used) };
-        for (place, (&address, &value)) in addresses.iter().zip(values).take(used).enumerate() {
-            built.places.insert(address, place);
-            built.cells.push((address, value));
-        }
-        if used as u64 != cells || built.places.len() != used || words.iter().any(|&word| word != 0) {
+        if used as u64 != cells || !ascend(&addresses[..used]) || words.iter().any(|&word| word != 0) {
             return Err(5);
         }
-        Ok(built)
+        let ram = addresses[..used].iter().copied().zip(values.iter().copied()).collect();
+        Ok(Built { last: 0, stack: vec![], ram })
     }
 
     /// Place E, record by record.
@@ -123,34 +119,35 @@ impl Built {
     }
 
     fn ram_write(&mut self, address: u64, value: u64, most: usize) -> Result<(), u64> {
-        match self.places.get(&address) {
-            Some(&place) => self.cells[place].1 = value,
-            None if self.cells.len() == most => return Err(44),
+        let is_full = self.ram.len() == most;
+        match self.ram.get_mut(&address) {
+            Some(held) => *held = value,
+            None if is_full => return Err(44),
             None => {
-                self.places.insert(address, self.cells.len());
-                self.cells.push((address, value));
+                self.ram.insert(address, value);
             }
         }
         Ok(())
     }
 
     fn ram_read(&mut self, address: u64, value: u64) -> Result<(), u64> {
-        let held = self.places.get(&address).map_or(0, |&place| self.cells[place].1);
-        if held == value {
-            Ok(())
-        } else {
-            Err(43)
+        match self.ram.get(&address).copied().unwrap_or(0) == value {
+            true => Ok(()),
+            false => Err(43),
         }
     }
 
-    /// Into what is lent; the unused cells stay, and the words behind the stack are 0 as they were.
+    /// Into what is lent, ascending; the unused cells stay, and the words behind the stack are 0 as they were.
     fn store(self, addresses: &mut [u64], values: &mut [u64], words: &mut [u64]) -> (u64, u64, u64) {
         words[..self.stack.len()].copy_from_slice(&self.stack);
-        for (place, &(address, value)) in self.cells.iter().enumerate() {
+        let depth = self.depth();
+        let mut cells: Vec<(u64, u64)> = self.ram.into_iter().collect();
+        cells.sort_unstable();
+        for (place, &(address, value)) in cells.iter().enumerate() {
             addresses[place] = address;
             values[place] = value;
         }
-        (0, self.depth(), self.cells.len() as u64)
+        (0, depth, cells.len() as u64)
     }
 }
 

@@ -110,7 +110,7 @@ pub struct Memory<'a> {
     pub origins: &'a mut [u64],
     /// As many.
     pub destinations: &'a mut [u64],
-    /// Of RAM's cells.
+    /// Of RAM's cells, the used ones ascending.
     pub addresses: &'a mut [u64],
     /// As many.
     pub values: &'a mut [u64],
@@ -127,7 +127,7 @@ pub struct MemoryView<'a> {
     pub origins: &'a [u64],
     /// As many.
     pub destinations: &'a [u64],
-    /// Of RAM's cells.
+    /// Of RAM's cells, the used ones ascending.
     pub addresses: &'a [u64],
     /// As many.
     pub values: &'a [u64],
@@ -273,8 +273,8 @@ pub fn helper_variables(registers: &[u64], helpers: &mut [u64], code: Code, memo
         code, memory, as_ptr, [])
 }
 
-/// `triton_replay`: the log read up to `clock` from opening RAM, of which `cells` cells are used. `words`, for the stack's words
-/// below the top sixteen, must be all 0.
+/// `triton_replay`: the log read up to `clock` from opening RAM, of which `cells` cells are used and ascend. `words`, for the
+/// stack's words below the top sixteen, must be all 0.
 pub fn replay(
     answer: &mut [u64],
     log: &[u8],

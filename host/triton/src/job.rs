@@ -26,8 +26,27 @@ pub struct Opening {
     pub secret_input: Vec<u64>,
     /// What merkle_step takes.
     pub secret_digests: Vec<[u64; 5]>,
-    /// Address and value, no address twice.
+    /// Address and value, ascending by address: others are refused as they stand (5; [`OutOfOrder`](crate::OutOfOrder) says
+    /// where). [`with_ram`](Self::with_ram) takes them in any order.
     pub ram: Vec<(u64, u64)>,
+}
+
+impl Opening {
+    /// The opening with these cells in place of its own, address and value, put in order. An address that stands twice still
+    /// does, and is refused.
+    ///
+    /// ```
+    /// use kixombu::Opening;
+    /// use std::collections::HashMap;
+    ///
+    /// let opening = Opening::default().with_ram(HashMap::from([(5, 7), (3, 8)]));
+    /// assert_eq!(opening.ram, [(3, 8), (5, 7)]);
+    /// ```
+    pub fn with_ram(self, cells: impl IntoIterator<Item = (u64, u64)>) -> Opening {
+        let mut ram: Vec<(u64, u64)> = cells.into_iter().collect();
+        ram.sort_by_key(|cell| cell.0);
+        Opening { ram, ..self }
+    }
 }
 
 /// How much is lent to a job, up to [`LONGEST`] of each: a step that needs more is refused (30 to 33).
@@ -209,9 +228,15 @@ impl Job {
         pairs(&self.origins, &self.destinations, self.count(register::JUMPS))
     }
 
-    /// Address and value of the used cells, in the order in which they came to be used.
+    /// Address and value of the used cells, ascending by address.
     pub fn ram(&self) -> impl ExactSizeIterator<Item = (u64, u64)> + '_ {
         pairs(&self.addresses, &self.values, self.count(register::CELLS))
+    }
+
+    /// The value at an address; none where it has no cell, and is read as 0.
+    pub fn cell(&self, address: u64) -> Option<u64> {
+        let used = &self.addresses[..self.count(register::CELLS)];
+        used.binary_search(&address).ok().map(|place| self.values[place])
     }
 
     /// The words that write_io has put out.

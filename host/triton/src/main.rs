@@ -1,7 +1,7 @@
 //! kixombu: jobs and their logs on the command line.
 #![forbid(unsafe_code)]
 use kixombu::listing::{print, trace_in_pieces, Printed};
-use kixombu::{records, replay, text, Ending, Job, JobFile, Refusal, Sizes, LONGEST};
+use kixombu::{records, replay, text, Ending, Job, JobFile, OutOfOrder, Refusal, Sizes, LONGEST};
 use std::ffi::{OsStr, OsString};
 use std::fmt::Display;
 use std::fs::File;
@@ -23,7 +23,7 @@ A text has one item to a line or between semicolons, and remarks behind #:
     digest 1 2 3 4 5; public 7 8; secret 9; secret_digest 1 2 3 4 5; ram 10 99; budget 100
     push 3; call loop; halt
     loop: addi -1; dup 0; skiz; recurse; return
-Also slot OPCODE ARGUMENT, a slot as it is, and byte N. The digest comes first; -1 stands for p - 1.
+Also slot OPCODE ARGUMENT, a slot as it is, and byte N. The digest comes first; ram's addresses ascend; -1 stands for p - 1.
 A job is lent 4,096 op stack words, 1,024 jump stack entries, 4,096 RAM cells and 4,096 output words; without a budget it
 may take 16,000,000 steps.
 
@@ -111,14 +111,19 @@ fn run(job_name: &OsStr) -> Outcome {
     let printed = print(&file, &mut out, |steps| progress.show(steps)).and_then(|printed| out.flush().map(|()| printed))?;
     match printed {
         Printed::NotOpened(Refusal::JobFileBroken) => job_file.map(|_| 1),
-        Printed::NotOpened(refusal) | Printed::Ran(Ending::Refused(refusal)) => Err(of(1, job_name, refusal)),
+        Printed::NotOpened(refusal) => {
+            let ram = job_file.map_or(vec![], |file| file.opening.ram);
+            Err(not_opened(job_name, refusal, &ram))
+        }
+        Printed::Ran(Ending::Refused(refusal)) => Err(of(1, job_name, refusal)),
         Printed::Ran(ending) => Ok(ended(ending)),
     }
 }
 
 fn record(job_name: &OsStr, log_name: &OsStr) -> Outcome {
     let job_file = job_file(job_name, &read(job_name, JobFile::MOST_BYTES)?)?;
-    let mut job = Job::open(&job_file.opening, Sizes::RUNJOB).map_err(|refusal| of(1, job_name, refusal))?;
+    let opening = &job_file.opening;
+    let mut job = Job::open(opening, Sizes::RUNJOB).map_err(|refusal| not_opened(job_name, refusal, &opening.ram))?;
     let mut out = create(log_name)?;
     let mut progress = Progress::new(job_file.budget.into());
     let ran = trace_in_pieces(&mut job, job_file.budget.into(), |bytes, steps| {
@@ -148,6 +153,8 @@ fn replay_to(job_name: &OsStr, log_name: &OsStr, clock: &OsStr) -> Outcome {
     let sizes = Sizes::RUNJOB;
     let replayed = replay(&log, clock, &opening.ram, sizes.ram, sizes.op_stack).map_err(|refusal| {
         let more = match refusal {
+            // of the job's RAM
+            Refusal::NotAWord | Refusal::BadState => return not_opened(job_name, refusal, &opening.ram),
             Refusal::BadShape if log.len() > LONGEST => format!("; a log has at most {LONGEST} bytes, this one has more"),
             // the first broken record is the one that replay has found
             Refusal::RecordBroken => records(&log).find_map(Result::err).map_or(String::new(), |fault| format!("; {fault}")),
@@ -193,6 +200,14 @@ fn ended(ending: Ending) -> u8 {
 
 fn job_file(name: &OsStr, file: &[u8]) -> Result<JobFile, Failure> {
     JobFile::read(file).map_err(|fault| of(1, name, format!("{}, {fault}", Refusal::JobFileBroken)))
+}
+
+/// Names the cell that is out of order, if that is why.
+fn not_opened(job_name: &OsStr, refusal: Refusal, ram: &[(u64, u64)]) -> Failure {
+    match (refusal, OutOfOrder::first(ram)) {
+        (Refusal::BadState, Some(found)) => of(1, job_name, format!("{refusal}; {found}")),
+        _ => of(1, job_name, refusal),
+    }
 }
 
 /// At most so many bytes and one, which shows that there are more.

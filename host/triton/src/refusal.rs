@@ -24,7 +24,8 @@ pub enum Refusal {
     InvalidOpcode,
     /// 4, place A: an argument that its instruction does not take.
     IllegalArgument,
-    /// 5, place A: a count outside its slice, an unused word that is not 0, an address twice.
+    /// 5, place A: a count outside its slice, an unused word that is not 0, RAM's cells not ascending by address, for which
+    /// [`OutOfOrder`](crate::OutOfOrder) says where.
     BadState,
 
     /// 10: there is no step behind a halt.
@@ -200,7 +201,7 @@ impl Display for Refusal {
             NotAWord => write!(f, "words must be below 2^64 - 2^32 + 1, found one that is not"),
             InvalidOpcode => write!(f, "a slot's opcode is no instruction's"),
             IllegalArgument => write!(f, "a slot's argument is none that its instruction takes"),
-            BadState => write!(f, "a count outside its slice, an unused word that is not 0, or a RAM address twice"),
+            BadState => write!(f, "a count outside its slice, an unused word that is not 0, or RAM's cells not ascending"),
             MachineHalted => write!(f, "the machine has halted and takes no further step"),
             InstructionPointerOverflow => write!(f, "an instruction is needed, found the program's end"),
             OpStackTooShallow => write!(f, "the stack must keep sixteen words, the instruction would leave fewer"),

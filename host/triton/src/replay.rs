@@ -10,11 +10,11 @@ pub struct Replayed {
     pub depth: u64,
     /// The stack's words below the top sixteen, the lowest first.
     pub stack: Vec<u64>,
-    /// Address and value of the used cells, in order.
+    /// Address and value of the used cells, ascending by address.
     pub ram: Vec<(u64, u64)>,
 }
 
-/// Reads the log up to `clock` from the opening's RAM, with so many cells and stack words lent.
+/// Reads the log up to `clock` from the opening's RAM, which must ascend by address, with so many cells and stack words lent.
 ///
 /// A sound log of a job gives what the job's step before `clock` left; an altered read in it is refused (40 or 43).
 pub fn replay(log: &[u8], clock: u64, ram: &[(u64, u64)], lent_cells: usize, lent_words: usize) -> Result<Replayed, Refusal> {

@@ -10,11 +10,12 @@
 //!
 //! The digest comes first. An instruction gives as many slots as it is long. A name with a colon stands for the slot that comes
 //! next; `call` takes such a name or a slot's number. Further items are `secret_digest` (five words), `slot` (opcode and argument,
-//! as they are) and `byte` (a byte as it is, for a broken file).
+//! as they are) and `byte` (a byte as it is, for a broken file). The addresses of `ram` ascend; nothing sorts them.
 use crate::frame::{put, words};
 use crate::instructions::{decode, named, Instruction};
 use crate::job_file::JobFile;
 use crate::P;
+use std::cmp::Ordering;
 use std::collections::HashMap;
 use std::error::Error;
 use std::fmt::{Display, Formatter, Result as Formatted};
@@ -143,8 +144,8 @@ struct Maker {
     /// The slot, and the line that says it.
     labels: HashMap<String, (u64, usize)>,
     calls: Vec<Call>,
-    /// RAM addresses, and the line that says each.
-    cells: HashMap<u64, usize>,
+    /// The last RAM address, and the line that says it.
+    last_cell: Option<(u64, usize)>,
     has_digest: bool,
     has_budget: bool,
     is_too_long: bool,
@@ -192,8 +193,8 @@ impl Maker {
             "ram" => {
                 let cell = item.numbers(2)?;
                 put(file, 16, &[&words(&cell)]);
-                if let Some(line) = self.cells.insert(cell[0], item.line) {
-                    self.warn(item.line, item.words[1], format!("line {line} has this address already; open refuses it with 5"));
+                if let Some((address, line)) = self.last_cell.replace((cell[0], item.line)) {
+                    self.warn_of_order(item, cell[0], address, line);
                 }
             }
             "budget" if self.has_budget => return item.fault(name, "there is at most one budget"),
@@ -259,6 +260,16 @@ impl Maker {
             let what = format!("{} does not take this argument; open refuses it with 4", instruction.name);
             self.warn(item.line, item.words[item.words.len() - 1], what);
         }
+    }
+
+    /// A cell's address, and that of the cell before it.
+    fn warn_of_order(&mut self, item: &Item, address: u64, before: u64, line: usize) {
+        let what = match address.cmp(&before) {
+            Ordering::Greater => return,
+            Ordering::Equal => format!("line {line} has this address already"),
+            Ordering::Less => format!("ram's addresses ascend, and line {line} has {before}"),
+        };
+        self.warn(item.line, item.words[1], format!("{what}; open refuses it with 5"));
     }
 
     fn warn_of_words(&mut self, item: &Item) {

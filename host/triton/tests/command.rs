@@ -84,6 +84,46 @@ fn broken_files_are_explained() {
     assert_eq!(text(&output.stdout), "end refused 50 0 0 0\n");
 }
 
+/// A job file's cells are not sorted: those that do not ascend are refused by open, and the first is named.
+#[test]
+fn cells_out_of_order_are_named() {
+    let unsorted = job("unsorted_ram.job");
+    let found = "RAM's cells must ascend by address, found 10 behind 20 at cell 1, counted from 0";
+    let refused = "BadState (5): a count outside its slice, an unused word that is not 0, or RAM's cells not ascending";
+    let said = format!("kixombu: {unsorted}: {refused}; {found}\n");
+    let output = kixombu(&["run", &unsorted], b"");
+    ends(&output, 1, &said);
+    assert_eq!(text(&output.stdout), "end refused 5 0 0 0\n");
+    let log = Temporary::new("unsorted.log");
+    ends(&kixombu(&["record", &unsorted, log.name()], b""), 1, &said);
+    assert!(!log.0.exists());
+    ends(&kixombu(&["replay", &unsorted, "-", "0"], b""), 1, &said);
+    // an address twice, and a number that is no word, which is tried first
+    let run = |text: &str| kixombu(&["run", "-"], &kixombu(&["make", "-"], text.as_bytes()).stdout);
+    let output = run("digest 1 2 3 4 5; ram 1 1; ram 7 1; ram 7 1; halt");
+    ends(&output, 1, &format!("kixombu: -: {refused}; {}\n", found.replace("10 behind 20 at cell 1", "7 behind 7 at cell 2")));
+    let output = run("digest 1 2 3 4 5; ram 2 1; ram 1 18446744069414584321; halt");
+    ends(&output, 1, "kixombu: -: NotAWord (2): words must be below 2^64 - 2^32 + 1, found one that is not\n");
+}
+
+/// Whatever the order of writes, replay prints the cells by address.
+#[test]
+fn replay_prints_cells_in_order() {
+    let program = "push 7; push 5; write_mem 1; push 8; push 3; write_mem 1; push 2; push 1; push -1; write_mem 2; halt";
+    let made = kixombu(&["make", "-"], format!("digest 1 2 3 4 5; ram 4 9; {program}").as_bytes());
+    let (job, log) = (Temporary::new("order.job"), Temporary::new("order.log"));
+    std::fs::write(&job.0, made.stdout).unwrap();
+    assert_eq!(kixombu(&["record", job.name(), log.name()], b"").status.code(), Some(0));
+    let cells = |clock: &str| {
+        let output = kixombu(&["replay", job.name(), log.name(), clock], b"");
+        ends(&output, 0, "");
+        text(&output.stdout).lines().filter(|line| line.starts_with("ram ")).map(str::to_string).collect::<Vec<_>>()
+    };
+    assert_eq!(cells("3"), ["ram 4 9", "ram 5 7"]);
+    assert_eq!(cells("6"), ["ram 3 8", "ram 4 9", "ram 5 7"]);
+    assert_eq!(cells("10"), ["ram 0 2", "ram 3 8", "ram 4 9", "ram 5 7", "ram 18446744069414584320 1"]);
+}
+
 #[test]
 fn record_show_and_replay() {
     let log = Temporary::new("memory.log");

@@ -57,5 +57,5 @@ fn the_order_of_cells() {
     let program = [write(7, 5), write(8, 3)].concat();
     let mut job = opened(&program, Sizes { op_stack: 20, ..SMALL }).unwrap();
     assert_eq!(job.run(6).ending, Ending::Spent);
-    assert_eq!(job.ram().collect::<Vec<_>>(), [(5, 7), (3, 8)]);
+    assert_eq!(job.ram().collect::<Vec<_>>(), [(3, 8), (5, 7)]);
 }

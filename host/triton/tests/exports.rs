@@ -1,4 +1,4 @@
-//! The calls over slices where no safe call comes: lengths that do not fit, and the clock's end.
+//! The calls over slices where no safe call comes: lengths that do not fit, the clock's end, and unused cells.
 use kixombu::exports::{self, answer, register, replayed, Code, Memory, Registers, STEP_BYTES};
 
 const NO_CODE: Code = Code { opcodes: &[], arguments: &[], public: &[], secret: &[], digests: &[] };
@@ -50,4 +50,33 @@ fn the_clock_has_an_end() {
     let mut helpers = [9; 6];
     assert_eq!(exports::helper_variables(&registers, &mut helpers, code, memory(&mut op_stack).view()), 0);
     assert_eq!(helpers, [0; 6]);
+}
+
+/// write_mem 1 at an address, with three used cells of five: the number, and all that is lent of RAM.
+fn written(address: u64, addresses: [u64; 5]) -> (u64, [u64; 5], [u64; 5]) {
+    let code = Code { opcodes: &[11], arguments: &[1], ..NO_CODE };
+    let (mut addresses, mut values) = (addresses, [30, 50, 90, u64::MAX - 1, u64::MAX - 2]);
+    let mut registers = [0; register::ALL];
+    (registers[register::DEPTH], registers[register::CELLS]) = (17, 3);
+    let mut op_stack = [0; 17];
+    (op_stack[15], op_stack[16]) = (7, address);
+    let memory = Memory { addresses: &mut addresses, values: &mut values, ..memory(&mut op_stack) };
+    let number = exports::step(&mut registers, &mut [0; answer::ALL], code, memory, &mut [0; STEP_BYTES]);
+    let used = if number == 0 && ![3, 5, 9].contains(&address) { 4 } else { 3 };
+    assert_eq!((registers[register::CELLS], registers[register::CLOCK]), (used, (number == 0).into()));
+    (number, addresses, values)
+}
+
+/// A new cell takes the first unused one, the cells above it move up, and what is not used stays, words or not.
+#[test]
+fn unused_cells_stay() {
+    let (last, next) = (u64::MAX - 1, u64::MAX - 2);
+    let opening = [3, 5, 9, last, next];
+    assert_eq!(written(1, opening), (0, [1, 3, 5, 9, next], [7, 30, 50, 90, next]));
+    assert_eq!(written(8, opening), (0, [3, 5, 8, 9, next], [30, 50, 7, 90, next]));
+    assert_eq!(written(10, opening), (0, [3, 5, 9, 10, next], [30, 50, 90, 7, next]));
+    assert_eq!(written(5, opening), (0, opening, [30, 7, 90, last, next]));
+    for out_of_order in [[5, 3, 9, last, next], [3, 5, 5, last, next], [9, 5, 3, 10, 11]] {
+        assert_eq!(written(1, out_of_order), (5, out_of_order, [30, 50, 90, last, next]));
+    }
 }

@@ -4,7 +4,8 @@ mod common;
 use common::open;
 use kixombu::listing::trace_in_pieces;
 use kixombu::text::make;
-use kixombu::{records, Ending, Job, JobFile, Opening, Record, Refusal, Sizes, Slot, LONGEST, P};
+use kixombu::{records, Ending, Job, JobFile, Opening, OutOfOrder, Record, Refusal, Sizes, Slot, LONGEST, P};
+use std::collections::BTreeMap;
 
 fn opening(text: &str) -> Opening {
     JobFile::read(&make(text).unwrap().file).unwrap().opening
@@ -27,6 +28,74 @@ fn open_refuses_by_number() {
     assert_eq!(number(&sound, Sizes { ram: 0, ..small }), Refusal::BadState);
     let ram = vec![(7, 8), (7, 8)];
     assert_eq!(number(&Opening { ram, ..sound }, Sizes { ram: 2, ..small }), Refusal::BadState);
+}
+
+/// RAM is handed over as it stands: cells that do not ascend are refused, and named.
+#[test]
+fn open_asks_for_ascending_cells() {
+    let opened = |ram: &[(u64, u64)]| {
+        let opening = Opening { ram: ram.to_vec(), ..Opening::default() };
+        let opened = Job::open(&opening, Sizes::RUNJOB);
+        let replayed = kixombu::replay(&[], 0, ram, 9, 0).map(|replayed| replayed.ram);
+        assert_eq!(replayed, opened.as_ref().map(|_| ram.to_vec()).map_err(|refusal| *refusal));
+        (opened.err(), OutOfOrder::first(ram).map(|found| (found.place, found.address, found.before)))
+    };
+    assert_eq!(opened(&[]), (None, None));
+    assert_eq!(opened(&[(0, 3), (1, 2), (P - 1, 1)]), (None, None));
+    assert_eq!(opened(&[(5, 1), (3, 1)]), (Some(Refusal::BadState), Some((1, 3, 5))));
+    assert_eq!(opened(&[(3, 1), (3, 1)]), (Some(Refusal::BadState), Some((1, 3, 3))));
+    assert_eq!(opened(&[(3, 1), (4, 1), (9, 1), (8, 1), (2, 1)]), (Some(Refusal::BadState), Some((3, 8, 9))));
+    assert_eq!(opened(&[(P - 1, 1), (0, 1)]), (Some(Refusal::BadState), Some((1, 0, P - 1))));
+    // 2 before 5
+    assert_eq!(opened(&[(5, 1), (3, P)]), (Some(Refusal::NotAWord), Some((1, 3, 5))));
+}
+
+#[test]
+fn cells_are_taken_in_any_order() {
+    let text = "digest 1 2 3 4 5; ram 99 1; halt";
+    let opened = |opening: Opening| Job::open(&opening, Sizes::RUNJOB).map(|job| job.ram().collect::<Vec<_>>());
+    let unsorted = [(9, 1), (3, 2), (P - 1, 3), (0, 4)];
+    let sorted = vec![(0, 4), (3, 2), (9, 1), (P - 1, 3)];
+    assert_eq!(opened(opening(text).with_ram(unsorted)), Ok(sorted.clone()));
+    assert_eq!(opened(opening(text).with_ram(BTreeMap::from(unsorted))), Ok(sorted));
+    assert_eq!(opened(opening(text).with_ram([])), Ok(vec![]));
+    let twice = opening(text).with_ram([(9, 1), (3, 2), (9, 7)]);
+    assert_eq!(twice.ram, [(3, 2), (9, 1), (9, 7)]);
+    assert_eq!(opened(twice), Err(Refusal::BadState));
+}
+
+/// New cells in front, between and behind, and across p - 1.
+#[test]
+fn cells_ascend_by_address() {
+    let write = |address: u64, words: u64| {
+        let pushed: String = (1..=words).rev().map(|word| format!("push {word}; ")).collect();
+        format!("{pushed}push {address}; write_mem {words}; pop 1; ")
+    };
+    let program = [write(5, 1), write(3, 1), write(9, 1), write(4, 2), write(P - 2, 4)].concat();
+    let text = format!("digest 1 2 3 4 5; ram 7 70; {program}halt");
+    let (log, jobs) = recorded(&text);
+    let job = jobs.last().unwrap();
+    assert!(job.is_halted());
+    let expected = [(0, 3), (1, 4), (3, 1), (4, 1), (5, 2), (7, 70), (9, 1), (P - 2, 1), (P - 1, 2)];
+    assert_eq!(job.ram().collect::<Vec<_>>(), expected);
+    assert_eq!(job.ram().collect::<BTreeMap<_, _>>(), BTreeMap::from(expected));
+    expected.iter().for_each(|&(address, value)| assert_eq!(job.cell(address), Some(value)));
+    [2, 6, 8, 10, P - 3, P, u64::MAX].iter().for_each(|&address| assert_eq!(job.cell(address), None));
+    for (clock, job) in jobs.iter().enumerate() {
+        let ram: Vec<(u64, u64)> = job.ram().collect();
+        assert_eq!(OutOfOrder::first(&ram), None, "{clock}");
+        assert_eq!(jobs[0].replay(&log, clock as u64).unwrap().ram, ram, "{clock}");
+    }
+
+    // nine cells suffice; with eight the last write is refused whole, though three of them are left
+    let opening = opening(&text);
+    let sizes = |ram| Sizes { ram, ..Sizes::RUNJOB };
+    assert_eq!(Job::open(&opening, sizes(9)).unwrap().run(u64::MAX).ending, Ending::Halted);
+    let mut short = Job::open(&opening, sizes(8)).unwrap();
+    assert_eq!(short.run(u64::MAX).ending, Ending::Refused(Refusal::RamFull));
+    assert_eq!(short.ram().collect::<Vec<_>>(), expected[2..7]);
+    let replayed = |cells| kixombu::replay(&log, u64::MAX, &opening.ram, cells, 100).map(|replayed| replayed.ram);
+    assert_eq!((replayed(9), replayed(8)), (Ok(expected.to_vec()), Err(Refusal::SliceFull)));
 }
 
 #[test]
@@ -221,6 +290,8 @@ fn replay_refuses_by_number() {
     assert_eq!(replay(&[write(0, 17)], &[], 0, 2), Err(Refusal::PointerDiffers));
     assert_eq!(replay(&[write(1, 16), write(0, 17)], &[], 0, 2), Err(Refusal::ClockFalls));
     assert_eq!(replay(&[], &[(1, 2)], 0, 0), Err(Refusal::BadState));
+    assert_eq!(replay(&[], &[(1, 2), (1, 2)], 2, 0), Err(Refusal::BadState));
+    assert_eq!(replay(&[], &[(2, 2), (1, 2)], 2, 0), Err(Refusal::BadState));
     assert_eq!(replay(&[], &[(1, P)], 1, 0), Err(Refusal::NotAWord));
     assert_eq!(replay(&[], &[], LONGEST + 1, 0), Err(Refusal::BadShape));
     assert_eq!(kixombu::replay(&[0], 0, &[], 0, 0), Err(Refusal::RecordBroken));

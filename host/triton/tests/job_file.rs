@@ -57,6 +57,14 @@ fn limits() {
     assert_eq!(fault(&file(&records)), "byte 65536: a job file has at most 65536 bytes, this one has more");
 }
 
+/// Cells keep the order that they have in the file, which is not for the file's reader to judge.
+#[test]
+fn cells_keep_their_order() {
+    let ram = vec![(5, 1), (3, 2), (5, 1), (4, 3)];
+    let file = JobFile { opening: Opening { ram, ..Opening::default() }, budget: 7 };
+    assert_eq!(JobFile::read(&file.write().unwrap()), Ok(file));
+}
+
 /// What cannot be read back is not written.
 #[test]
 fn what_no_file_holds_is_not_written() {

@@ -3,7 +3,7 @@ mod common;
 
 use common::{folder, names, read};
 use kixombu::text::make;
-use kixombu::{Job, JobFile, Sizes};
+use kixombu::{bytes_of, replay, Job, JobFile, Record, Sizes};
 use std::process::{Command, Stdio};
 
 #[test]
@@ -12,7 +12,8 @@ fn texts_make_the_files() {
         let text = String::from_utf8(read(&name, "txt")).unwrap();
         let made = make(&text).unwrap_or_else(|fault| panic!("{name}: {fault}"));
         assert_eq!(made.file, read(&name, "job"), "{name}");
-        assert_eq!(made.warnings.len(), usize::from(name == "not_a_word"), "{name}: {:?}", made.warnings);
+        let has_warning = ["not_a_word", "unsorted_ram"].contains(&name.as_str());
+        assert_eq!(made.warnings.len(), usize::from(has_warning), "{name}: {:?}", made.warnings);
     }
 }
 
@@ -85,6 +86,9 @@ fn steps_runs_and_traces_agree() {
     }
 }
 
+/// What the calls may take of a thread's stack.
+const SMALL_STACK: usize = 224 << 10;
+
 /// A job's calls in a thread with a small stack, most of which replay's table takes. Where it does not suffice the process ends.
 #[test]
 fn a_small_stack_suffices() {
@@ -101,9 +105,15 @@ fn a_small_stack_suffices() {
             let replayed = traced.replay(&log[..trace.bytes], u64::MAX);
             (ran.ending == trace.ending, helpers.is_ok(), replayed.is_ok())
         };
-        let small = std::thread::Builder::new().stack_size(96 << 10);
+        let small = std::thread::Builder::new().stack_size(SMALL_STACK);
         assert_eq!(small.spawn(calls).unwrap().join().unwrap(), (true, true, true), "{name}");
     }
+    // more addresses than the table holds
+    let write = |i: u64| Record::Ram { clock: i as u32, address: i * 0x9e37_79b9 % 0x7fff_ffff, value: i, write: true };
+    let log = bytes_of(&(0..100_000).map(write).collect::<Vec<_>>());
+    let small = std::thread::Builder::new().stack_size(SMALL_STACK);
+    let replayed = small.spawn(move || replay(&log, u64::MAX, &[], 100_000, 0)).unwrap().join().unwrap();
+    assert_eq!(replayed.unwrap().ram.len(), 100_000);
 }
 
 type State = (u64, u64, Vec<u64>, Vec<(u64, u64)>, Vec<(u64, u64)>, Vec<u64>, Option<[u64; 16]>);

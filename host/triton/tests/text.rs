@@ -99,6 +99,15 @@ fn warnings_say_what_open_will_refuse() {
     assert_eq!(warnings("slot 5 1; slot 3 5"), ["line 2, `5`: no instruction has this opcode; open refuses it with 3"]);
     assert_eq!(warnings("slot 3 9"), ["line 2, `9`: pop does not take this argument; open refuses it with 4"]);
     assert_eq!(warnings("ram 3 1\nram 3 1"), ["line 3, `3`: line 2 has this address already; open refuses it with 5"]);
+    assert_eq!(
+        warnings("ram 3 1; ram 5 1\nhalt; ram 4 1; ram 6 1"),
+        ["line 3, `4`: ram's addresses ascend, and line 2 has 5; open refuses it with 5"]
+    );
+    assert_eq!(
+        warnings("ram -1 1; ram 0 1"),
+        [format!("line 2, `0`: ram's addresses ascend, and line 2 has {}; open refuses it with 5", P - 1)]
+    );
+    assert_eq!(warnings("ram 0 1; ram 1 1; ram -1 1").len(), 0);
     let long = "a job file has at most 65536 bytes and 1024 slots; reading it is refused with 50";
     assert_eq!(warnings(&"nop\n".repeat(1026)), [format!("line 1026, `nop`: {long}")]);
     assert_eq!(warnings(&"nop\n".repeat(1024)).len(), 0);

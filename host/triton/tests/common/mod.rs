@@ -15,7 +15,7 @@ pub fn names() -> Vec<String> {
     let jobs = paths.filter(|path| path.extension().is_some_and(|extension| extension == "job"));
     let mut names: Vec<String> = jobs.map(|path| path.file_stem().unwrap().to_str().unwrap().to_string()).collect();
     names.sort();
-    assert!(names.len() >= 11, "jobs are missing: {names:?}");
+    assert!(names.len() >= 12, "jobs are missing: {names:?}");
     names
 }
 

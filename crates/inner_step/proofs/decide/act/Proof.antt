@@ -66,7 +66,7 @@ read-mem-requires : tie.Need-read-mem-requires
 unfolding decode table
 read-mem-requires c κs =
     let e = rw (c .match .keys16) at (c .before .before .before .before .before .before .pre .allowed) in
-    (record { addresses = c .before .before .before .before .before .before .pre .addresses; values = c .before .before .before .before .before .before .pre .values; word = words-getD 15 (c .before .before .before .before .before .before .pre .words); few = words-few _ e }, words-allowed _ e)
+    (record { usable = c .before .before .before .before .before .before .pre .usable; word = words-getD 15 (c .before .before .before .before .before .before .pre .words); few = words-few _ e }, words-allowed _ e)
 
 write-mem-requires : tie.Need-write-mem-requires
 unfolding decode table
@@ -135,10 +135,10 @@ unfolding decode table
 write-io-requires c κs = words-allowed _ (rw (c .match .keys37) at (c .before .before .before .before .before .before .pre .allowed))
 
 xx-dot-step-requires : tie.Need-xx-dot-step-requires
-xx-dot-step-requires c κs = (c .before .before .before .before .before .before .pre .words, c .before .before .before .before .before .before .pre .addresses, c .before .before .before .before .before .before .pre .values)
+xx-dot-step-requires c κs = (c .before .before .before .before .before .before .pre .words, c .before .before .before .before .before .before .pre .usable)
 
 xb-dot-step-requires : tie.Need-xb-dot-step-requires
-xb-dot-step-requires c κs = (c .before .before .before .before .before .before .pre .words, c .before .before .before .before .before .before .pre .addresses, c .before .before .before .before .before .before .pre .values)
+xb-dot-step-requires c κs = (c .before .before .before .before .before .before .pre .words, c .before .before .before .before .before .before .pre .usable)
 
 refuse-requires : tie.Need-refuse-requires
 refuse-requires c κs = search needs

@@ -20,7 +20,7 @@ sponge-absorb-requires : tie.Need-sponge-absorb-requires
 sponge-absorb-requires c κs = search needs
 
 sponge-absorb-mem-requires : tie.Need-sponge-absorb-mem-requires
-sponge-absorb-mem-requires c κs = record { addresses = c .before .before .before .before .pre .addresses; values = c .before .before .before .before .pre .values; word = words-getD 15 (c .before .before .before .before .pre .words); few = lit≤ tt }
+sponge-absorb-mem-requires c κs = record { usable = c .before .before .before .before .pre .usable; word = words-getD 15 (c .before .before .before .before .pre .words); few = lit≤ tt }
 
 sponge-squeeze-requires : tie.Need-sponge-squeeze-requires
 sponge-squeeze-requires c κs = search needs
@@ -29,7 +29,7 @@ merkle-step-requires : tie.Need-merkle-step-requires
 merkle-step-requires c κs = c .before .before .before .before .pre .digests
 
 merkle-step-mem-requires : tie.Need-merkle-step-mem-requires
-merkle-step-mem-requires c κs = record { addresses = c .before .before .before .before .pre .addresses; values = c .before .before .before .before .pre .values; word = words-getD 8 (c .before .before .before .before .pre .words); few = lit≤ tt }
+merkle-step-mem-requires c κs = record { usable = c .before .before .before .before .pre .usable; word = words-getD 8 (c .before .before .before .before .pre .words); few = lit≤ tt }
 
 refused-requires : tie.Need-refused-requires
 refused-requires c κs = search needs

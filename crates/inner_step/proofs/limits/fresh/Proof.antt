@@ -9,10 +9,10 @@ use Rattle.inner_step.proofs.limits.fresh.Statement.{statement}
 use Rattle.inner_step.proofs.limits.fresh.Tie as tie
 
 abbrev Inv-loop : tie.InvT-loop
-Inv-loop addresses count written from n more₀ i₀ more i = (i ≤ n) × (more ≤ i) × (more ≡ freshOf addresses count written from i)
+Inv-loop addresses count written from n more₀ guess₀ i₀ more guess i = (i ≤ n) × (more ≤ i) × (more ≡ freshOf addresses count written from i)
 
 abbrev μ-loop : tie.MeasureT-loop
-μ-loop addresses count written from n more₀ i₀ more i = n - i
+μ-loop addresses count written from n more₀ guess₀ i₀ more guess i = n - i
 
 loop-holds : tie.Need-loop-holds Inv-loop μ-loop
 unfolding freshOf
@@ -22,7 +22,7 @@ new-cell-requires : tie.Need-new-cell-requires Inv-loop μ-loop
 new-cell-requires c κs = search needs
 
 add-more : tie.Need-add-more Inv-loop μ-loop
-add-more c = omega (arith, new-few _ _ _ _ _ (c .new-cell .ensures))
+add-more c = omega (arith, new-few _ _ _ _ _ (c .before .new-cell .ensures))
 
 add-i : tie.Need-add-i Inv-loop μ-loop
 add-i c = search needs
@@ -31,7 +31,7 @@ loop-less : tie.Need-loop-less Inv-loop μ-loop
 loop-less c = search needs
 
 loop-again : tie.Need-loop-again Inv-loop μ-loop
-loop-again c = (omega arith, omega (arith, new-few _ _ _ _ _ (c .new-cell .ensures)), fresh-turn _ _ _ _ _ (c .before .before .loop .inv .2) (c .new-cell .ensures))
+loop-again c = (omega arith, omega (arith, new-few _ _ _ _ _ (c .before .new-cell .ensures)), fresh-turn _ _ _ _ _ (c .before .before .before .loop .inv .2) (c .before .new-cell .ensures))
 
 returns : tie.Need-returns Inv-loop μ-loop
 returns c =

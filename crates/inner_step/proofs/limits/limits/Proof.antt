@@ -69,7 +69,7 @@ returns c =
     let o : length (a .effect .output) ≡ 5 = length-unmapped ℕ (a .effect .output) 5 (y .1 .1 .1 .1 .1 .1 .1 .1 .1 .1 .1 .1 .1 .0 .1 .0 .1) in
     record {
       is = λ k. rw (c .first4 .ensures, c .before .above4 .ensures, c .before .before .first3 .ensures, c .before .before .before .first2 .ensures, c .before .before .before .before .above3 .ensures, c .before .before .before .before .before .first .ensures, c .before .before .before .before .before .before .above2 .ensures, d .above .ensures, d .before .before .ram-limit .ensures, e .jumps-after .ensures, f .least2 .ensures, f .before .least .ensures)
-          (limits-is (a .state) (a .effect) (memory (now (a .op-stack)) (now (a .origins)) (now (a .destinations)) (now (a .addresses)) (now (a .values)) (now (a .output))) k w o (g .pre .used) (g .pre .pair));
+          (limits-is (a .state) (a .effect) (memory (now (a .op-stack)) (now (a .origins)) (now (a .destinations)) (now (a .addresses)) (now (a .values)) (now (a .output))) k w o (g .pre .ordered .within) (g .pre .pair));
     }
 
 pub limits-spec : {M : Type 1} → statement M

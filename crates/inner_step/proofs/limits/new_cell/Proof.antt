@@ -27,25 +27,25 @@ returns c = sym (new-among _ _ _ _ _ (sym (c .before .among .ensures) ∙ c .if1
 find-requires : tie.Need-find-requires
 find-requires c κs = search needs
 
-enum-told : tie.Need-enum-told
-enum-told c = search needs
+enum-known-place : tie.Need-enum-known-place
+enum-known-place c = search needs
 
-enum-told-2 : tie.Need-enum-told-2
-enum-told-2 c = search needs
+enum-known-place-2 : tie.Need-enum-known-place-2
+enum-known-place-2 c = search needs
 
 returns-2 : tie.Need-returns-2
 returns-2 c =
-    let b = c .before .before .before in
+    let b = c .before .before .before .before in
     let a = b .before .before .before .args in
     sym (new-in _ _ _ _ _ true (sym (b .before .among .ensures) ∙ b .if1 .left)
-    (in-at (cells (a .count) (now (a .addresses)) (now (a .addresses))) _ _ (ap foundOf (sym (c .enum-told .given .1)) ∙ c .before .before .find .ensures .is (now (a .addresses)))))
+    (in-at (cells (a .count) (now (a .addresses)) (now (a .addresses))) _ _ (ap foundOf (sym (c .before .place .given .1)) ∙ c .before .before .before .find .ensures .is (now (a .addresses)))))
 
 returns-3 : tie.Need-returns-3
 returns-3 c =
-    let b = c .before .before .before in
+    let b = c .before .before .before .before in
     let a = b .before .before .before .args in
     sym (new-in _ _ _ _ _ false (sym (b .before .among .ensures) ∙ b .if1 .left)
-    (in-absent (cells (a .count) (now (a .addresses)) (now (a .addresses))) _ _ (ap foundOf (sym (c .enum-told2 .given .1)) ∙ c .before .before .find .ensures .is (now (a .addresses)))))
+    (in-absent (cells (a .count) (now (a .addresses)) (now (a .addresses))) _ _ (ap foundOf (sym (c .before .place2 .given .1)) ∙ c .before .before .before .find .ensures .is (now (a .addresses)))))
 
 pub new-cell-spec : {M : Type 1} → statement M
 new-cell-spec =
@@ -57,7 +57,7 @@ new-cell-spec =
     among-requires
     returns
     find-requires
-    enum-told
-    enum-told-2
+    enum-known-place
+    enum-known-place-2
     returns-2
     returns-3)

@@ -5,25 +5,28 @@ use Prim.Native.Nat.{_+_, _-_, _≤_}
 use native.Mathlib.Omega.{arith}
 use lib.ListN.{length}
 use Rattle.machine.specs.Ram.{cells}
+use Rattle.machine.specs.RamView.{Ordered}
 use Rattle.machine.specs.EffectView.{writesFrom}
 use Rattle.machine.specs.Apply.{touched}
 use Rattle.inner_step.proofs.PerformLaws.{writes-start, writes-room, writes-turn, writes-done}
+use Rattle.machine.proofs.RamView.{stored-ordered}
 use Rattle.inner_step.proofs.perform.write_all.Statement.{statement}
 use Rattle.inner_step.proofs.perform.write_all.Tie as tie
 
 abbrev Inv-loop : tie.InvT-loop
-Inv-loop addresses₀ values₀ count from n written words used₀ i₀ addresses values used i =
+Inv-loop addresses₀ values₀ count from n written words used₀ guess₀ i₀ addresses values used guess i =
     (i ≤ n) × (length addresses ≡ length addresses₀) × (length values ≡ length values₀)
     × (touched (cells used addresses values) (writesFrom written words (from + i) (n - i)) ≡ touched (cells count addresses₀ values₀) (writesFrom written words from n))
+    × (Ordered addresses used)
 
 abbrev μ-loop : tie.MeasureT-loop
-μ-loop addresses₀ values₀ count from n written words used₀ i₀ addresses values used i = n - i
+μ-loop addresses₀ values₀ count from n written words used₀ guess₀ i₀ addresses values used guess i = n - i
 
 loop-holds : tie.Need-loop-holds Inv-loop μ-loop
-loop-holds c = (omega arith, refl, refl, writes-start _ _ _ _ _)
+loop-holds c = (omega arith, refl, refl, writes-start _ _ _ _ _, c .before .before .pre .ordered)
 
-add-place : tie.Need-add-place Inv-loop μ-loop
-add-place c = search needs
+add-at : tie.Need-add-at Inv-loop μ-loop
+add-at c = search needs
 
 mul-write : tie.Need-mul-write Inv-loop μ-loop
 mul-write c = search needs
@@ -43,6 +46,7 @@ write-requires c κs =
     let s = c .before .before .before .before .before .before in
     let a = s .args in
     writes-room (a .t4) (a .t5) (a .from) (a .n) (l .i) (c .before .before .loop-test .taken) (cells (l .used) (l .addresses) (l .values)) _ (l .inv .3)
+    (l .inv .4)
     (omega (arith, s .pre .pair, l .inv .1, l .inv .2))
     (omega (arith, s .pre .fits, l .inv .1))
 
@@ -57,11 +61,15 @@ loop-again c =
     let w = c .before .before .before .before in
     let l = w .before .before .before .before .loop in
     let s = w .before .before .before .before .before .before .before in
-    let a = s .args in (
+    let a = s .args in
+    let t = w .before .before .before .loop-test .taken in
+    let x = cells (l .used) (l .addresses) (l .values) in
+    let room = writes-room (a .t4) (a .t5) (a .from) (a .n) (l .i) t x _ (l .inv .3) (l .inv .4) (omega (arith, s .pre .pair, l .inv .1, l .inv .2)) (omega (arith, s .pre .fits, l .inv .1)) in (
       omega arith,
       omega (arith, w .write .kept, l .inv .1),
       omega (arith, w .write .kept, l .inv .2),
-      writes-turn (a .t4) (a .t5) (a .from) (a .n) (l .i) (w .before .before .before .loop-test .taken) (cells (l .used) (l .addresses) (l .values)) _ (l .inv .3) (w .write .ensures .is),
+      writes-turn (a .t4) (a .t5) (a .from) (a .n) (l .i) t x _ (l .inv .3) (w .write .ensures .is),
+      stored-ordered room (w .write .ensures),
     )
 
 same-length : tie.Need-same-length Inv-loop μ-loop
@@ -83,7 +91,7 @@ write-all-spec =
     Inv-loop
     μ-loop
     loop-holds
-    add-place
+    add-at
     mul-write
     array-read-write
     mul-write-2

@@ -7,8 +7,8 @@ use Rattle.machine.proofs.Choice.{first-zero, first-left, above-is, abo
 use Rattle.machine.proofs.checks.used_cells.Statement.{statement}
 use Rattle.machine.proofs.checks.used_cells.Tie as tie
 
-twice-requires : tie.Need-twice-requires
-twice-requires c κs = search needs
+falls-requires : tie.Need-falls-requires
+falls-requires c κs = search needs
 
 returns : tie.Need-returns
 unfolding cells5
@@ -16,7 +16,7 @@ returns c = sym (first-left _ _ (λ z. omega (arith, above-is _ _ 5 (c .if1 .tak
 
 returns-2 : tie.Need-returns-2
 unfolding cells5
-returns-2 c = c .twice .ensures ∙ sym (first-zero _ _ (above-not _ _ 5 (c .before .if1 .left)))
+returns-2 c = c .falls .ensures ∙ sym (first-zero _ _ (above-not _ _ 5 (c .before .if1 .left)))
 
 pub used-cells-spec : {M : Type 1} → statement M
-used-cells-spec = tie.close (tie.spec twice-requires returns returns-2)
+used-cells-spec = tie.close (tie.spec falls-requires returns returns-2)

@@ -31,8 +31,7 @@ of-slot-requires c κs =
       words = rw (c .before .before .top .ensures) (top-words (k .args .state .depth) (k .pre .words));
       inside = c .before .before .before .if1 .taken;
       digests = k .pre .digests;
-      addresses = k .pre .addresses;
-      values = k .pre .values;
+      usable = k .pre .usable;
     }
 
 returns : tie.Need-returns

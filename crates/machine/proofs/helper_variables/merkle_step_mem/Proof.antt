@@ -10,7 +10,7 @@ array-read-read-up : tie.Need-array-read-read-up
 array-read-read-up c = search needs
 
 read-up-requires : tie.Need-read-up-requires
-read-up-requires c κs = record { addresses = c .before .before .pre .addresses; values = c .before .before .pre .values; word = words-getD 8 (c .before .before .pre .words); few = omega arith }
+read-up-requires c κs = record { usable = c .before .before .pre .usable; word = words-getD 8 (c .before .before .pre .words); few = omega arith }
 
 array-read-t10 : tie.Need-array-read-t10
 array-read-t10 c = search needs

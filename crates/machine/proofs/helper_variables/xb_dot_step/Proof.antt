@@ -16,7 +16,7 @@ array-read-read-up : tie.Need-array-read-read-up
 array-read-read-up c = search needs
 
 read-up-requires : tie.Need-read-up-requires
-read-up-requires c κs = record { addresses = c .before .before .before .pre .addresses; values = c .before .before .before .pre .values; word = words-getD 14 (c .before .before .before .pre .words); few = omega arith }
+read-up-requires c κs = record { usable = c .before .before .before .pre .usable; word = words-getD 14 (c .before .before .before .pre .words); few = omega arith }
 
 array-read-t11 : tie.Need-array-read-t11
 array-read-t11 c = search needs

@@ -10,13 +10,13 @@ array-read-read-up : tie.Need-array-read-read-up
 array-read-read-up c = search needs
 
 read-up-requires : tie.Need-read-up-requires
-read-up-requires c κs = record { addresses = c .before .before .pre .addresses; values = c .before .before .pre .values; word = words-getD 15 (c .before .before .pre .words); few = omega arith }
+read-up-requires c κs = record { usable = c .before .before .pre .usable; word = words-getD 15 (c .before .before .pre .words); few = omega arith }
 
 array-read-read-up-2 : tie.Need-array-read-read-up-2
 array-read-read-up-2 c = search needs
 
 read-up-requires-2 : tie.Need-read-up-requires-2
-read-up-requires-2 c κs = record { addresses = c .before .before .before .pre .addresses; values = c .before .before .before .pre .values; word = words-getD 14 (c .before .before .before .pre .words); few = omega arith }
+read-up-requires-2 c κs = record { usable = c .before .before .before .pre .usable; word = words-getD 14 (c .before .before .before .pre .words); few = omega arith }
 
 array-read-t12 : tie.Need-array-read-t12
 array-read-t12 c = search needs

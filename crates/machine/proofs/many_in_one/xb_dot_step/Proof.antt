@@ -18,7 +18,7 @@ read-requires c κs = search needs
 element-at-requires : tie.Need-element-at-requires
 element-at-requires c κs =
     let q = c .before .before .before .pre in
-    (q .1, q .2, words-getD 14 (q .0))
+    (q .1, words-getD 14 (q .0))
 
 accumulator-requires : tie.Need-accumulator-requires
 accumulator-requires c κs = search needs

@@ -16,7 +16,7 @@ use Rattle.machine.proofs.memory.read_up.Statement.{statement}
 use Rattle.machine.proofs.memory.read_up.Tie as tie
 
 abbrev Inv-loop : tie.InvT-loop
-Inv-loop addresses values count start n at₀ held₀ words₀ x₀ i₀ at held words x i =
+Inv-loop addresses values count start n at₀ held₀ words₀ x₀ guess₀ i₀ at held words x guess i =
     (i ≤ n)
     × (length at ≡ 10)
     × (length held ≡ 10)
@@ -27,7 +27,7 @@ Inv-loop addresses values count start n at₀ held₀ words₀ x₀ i₀ at held
     × (take i words ++ wordsUp (cells count addresses values) x (n - i) ≡ wordsUp (cells count addresses values) start n)
 
 abbrev μ-loop : tie.MeasureT-loop
-μ-loop addresses values count start n at₀ held₀ words₀ x₀ i₀ at held words x i = n - i
+μ-loop addresses values count start n at₀ held₀ words₀ x₀ guess₀ i₀ at held words x guess i = n - i
 
 loop-holds : tie.Need-loop-holds Inv-loop μ-loop
 loop-holds c =
@@ -81,9 +81,9 @@ loop-again c =
       simp length-set (q .2),
       simp length-set (q .3),
       up-next (a .start) (l .i) (q .4) (c .add .ensures),
-      accesses-turn ramRead (l .at) (l .held) (l .x) (c .before .read .result) (l .i) _ _ (omega arith) (omega arith) r,
-      words-turn (l .held) (c .before .read .result) (l .i) _ _ (omega arith) v,
-      words-turn (l .words) (c .before .read .result) (l .i) _ _ (omega arith) w,
+      accesses-turn ramRead (l .at) (l .held) (l .x) (c .before .read .result .word) (l .i) _ _ (omega arith) (omega arith) r,
+      words-turn (l .held) (c .before .read .result .word) (l .i) _ _ (omega arith) v,
+      words-turn (l .words) (c .before .read .result .word) (l .i) _ _ (omega arith) w,
     )
 
 returns : tie.Need-returns Inv-loop μ-loop

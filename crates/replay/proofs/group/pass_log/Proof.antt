@@ -1,127 +1,126 @@
--- `replay::group::pass_log` meets its contract. The loop's invariant: the records before `at` are right, and the table is as they leave
--- it. Assumes nothing.
-use borrow.Author.Needs.{needs}
-use borrow.Author.Tests.{eqb-true, eqb-false}
-use mathlib.Core.List.{List}
-use mathlib.Core.Path.{_≡_, refl, sym}
-use Prim.Native.Nat.{_-_, _≤_}
+-- `replay::group::pass_log` meets its contract. Assumes nothing.
+use Prim.Native.Nat.{_-_}
 use native.Mathlib.Omega.{arith}
+use mathlib.Core.Path.{_≡_, refl}
 use lib.ListN.{length}
-use Rattle.machine.specs.Ram.{cells}
-use Rattle.machine.specs.Records.{Record}
-use Rattle.replay.specs.Walk.{Walk}
-use Rattle.replay.proofs.GroupLaws.{apart}
-use Rattle.replay.proofs.TableLaws.{turn-full}
-use Rattle.replay.proofs.PassLaws.{Onward, onward-none, next, onward-next, onward-wrong, onward-end}
+use borrow.Author.Needs.{needs}
+use Rattle.machine.specs.Ram.{cells as cellsOf}
+use Rattle.replay.proofs.PassLaws.{Going, going-start, going-made, going-next, next, onward-end, onward-wrong}
 use Rattle.replay.proofs.group.pass_log.Statement.{statement}
 use Rattle.replay.proofs.group.pass_log.Tie as tie
 
 abbrev Inv-loop : tie.InvT-loop
-Inv-loop log to lo hi start keys₀ vals₀ n₀ at₀ keys vals n at =
-    (at ≤ to)
+Inv-loop log to lo checking addresses values count keys₀ vals₀ lkeys₀ lvals₀ hi₀ n₀ m₀ at₀ keys vals lkeys lvals hi n m at =
+    Going log to checking lo hi (cellsOf count addresses values) at n keys vals m lkeys lvals
     × (length keys ≡ length keys₀)
     × (length vals ≡ length vals₀)
-    × ((rs : List Record) → Walk log 0 to rs → Onward log to lo hi (cells start keys₀ vals₀) rs at (cells n keys vals))
+    × (length lkeys ≡ length lkeys₀)
+    × (length lvals ≡ length lvals₀)
 
 abbrev μ-loop : tie.MeasureT-loop
-μ-loop log to lo hi start keys₀ vals₀ n₀ at₀ keys vals n at = to - at
+μ-loop log to lo checking addresses values count keys₀ vals₀ lkeys₀ lvals₀ hi₀ n₀ m₀ at₀ keys vals lkeys lvals hi n m at = to - at
 
 loop-holds : tie.Need-loop-holds Inv-loop μ-loop
-loop-holds c = (omega arith, refl, refl, λ rs w. onward-none (c .before .before .before .pre .1) w)
+loop-holds c =
+    let r = c .before .before .before .before .before .before .before .pre in
+    (going-start _ _ (r .1) (r .3), refl, refl, refl, refl)
 
 head-at-requires : tie.Need-head-at-requires Inv-loop μ-loop
 head-at-requires c κs =
-    let w = c .before .before .before .before .before .pre .0 in
-    omega (arith, w .ends)
+    let r = c .before .before .before .before .before .before .before .before .before .pre in
+    omega (arith, c .before .loop .inv .0 .within, r .0 .ends)
+
+add-next : tie.Need-add-next Inv-loop μ-loop
+add-next c =
+    let r = c .before .before .before .before .before .before .before .before .before .before .before .pre in
+    let x = next (c .before .before .before .loop .inv .0 .on (r .0 .records) (r .0 .walk)) _ (c .before .head-at .ensures) (r .0 .ends) (c .before .before .loop-test .taken) in
+    omega (arith, x .fits, r .0 .ends)
+
+add-next-2 : tie.Need-add-next-2 Inv-loop μ-loop
+add-next-2 c =
+    let r = c .before .before .before .before .before .before .before .before .before .before .before .pre in
+    let x = next (c .before .before .before .loop .inv .0 .on (r .0 .records) (r .0 .walk)) _ (c .before .head-at .ensures) (r .0 .ends) (c .before .before .loop-test .taken) in
+    omega (arith, x .fits, r .0 .ends)
+
+make-room-requires : tie.Need-make-room-requires Inv-loop μ-loop
+make-room-requires c κs =
+    let r = c .before .before .before .before .before .before .before .before .before .before .before .before .before .before .before .pre in
+    let g = c .before .before .before .before .before .before .before .loop .inv .0 in
+    (g .on (r .0 .records) (r .0 .walk) .table .cells, omega (arith, g .lent .two))
 
 turn-requires : tie.Need-turn-requires Inv-loop μ-loop
 turn-requires c κs =
-    let l = c .before .before .before .before in
-    let w = l .before .before .before .before .pre .0 in
-    let o = l .loop .inv .3 (w .records) (w .walk) in
-    let x = next o _ (c .before .before .head-at .ensures) (w .ends) (c .before .before .before .loop-test .taken) in
-    (omega (arith, x .sized, x .fits, w .ends), o .table .room, o .table .pair)
-
-sub-t18 : tie.Need-sub-t18 Inv-loop μ-loop
-sub-t18 c =
-    let l = c .before .before .before .before .before .before .before .before .before .before .before .before in
-    let w = l .before .before .before .before .pre .0 in
-    let o = l .loop .inv .3 (w .records) (w .walk) in
-    omega (arith, o .takes)
+    let r = c .before .before .before .before .before .before .before .before .before .before .before .before .before .before .before .before .before .before .before .before .before .before .before .before .pre in
+    let g = going-made (r .0) (c .before .before .before .before .before .before .before .before .before .before .before .before .before .before .before .before .loop .inv .0) (c .before .before .before .before .before .before .before .before .make-room .ensures) in
+    let x = next (g .going .on (r .0 .records) (r .0 .walk)) _ (c .before .before .before .before .before .before .before .before .before .before .before .before .before .before .head-at .ensures) (r .0 .ends) (c .before .before .before .before .before .before .before .before .before .before .before .before .before .before .before .loop-test .taken) in
+    (omega (arith, x .sized, x .fits, r .0 .ends), r .2, g .cells, g .late)
 
 same-length : tie.Need-same-length Inv-loop μ-loop
-same-length c = search needs
+same-length c =
+    omega (arith, c .before .before .before .before .before .before .before .before .before .before .before .before .before .before .before .before .make-room .kept, c .before .before .before .before .before .before .before .before .before .before .before .before .before .before .before .before .before .before .before .before .before .before .before .before .loop .inv .1)
 
 same-length-2 : tie.Need-same-length-2 Inv-loop μ-loop
-same-length-2 c = search needs
+same-length-2 c =
+    omega (arith, c .before .before .before .before .before .before .before .turn .kept, c .before .before .before .before .before .before .before .before .before .before .before .before .before .before .before .before .make-room .kept, c .before .before .before .before .before .before .before .before .before .before .before .before .before .before .before .before .before .before .before .before .before .before .before .before .loop .inv .2)
+
+same-length-3 : tie.Need-same-length-3 Inv-loop μ-loop
+same-length-3 c =
+    omega (arith, c .before .before .before .before .before .before .before .turn .kept, c .before .before .before .before .before .before .before .before .before .before .before .before .before .before .before .before .before .before .before .before .before .before .before .before .loop .inv .3)
+
+same-length-4 : tie.Need-same-length-4 Inv-loop μ-loop
+same-length-4 c =
+    omega (arith, c .before .before .before .before .before .before .before .turn .kept, c .before .before .before .before .before .before .before .before .before .before .before .before .before .before .before .before .before .before .before .before .before .before .before .before .loop .inv .4)
 
 returns : tie.Need-returns Inv-loop μ-loop
 returns c =
-    let l = c .before .before .before .before .before .before .before .before .before .before .before .before in
-    let w = l .before .before .before .before .pre .0 in
-    let o = l .loop .inv .3 (w .records) (w .walk) in
+    let r = c .before .before .before .before .before .before .before .before .before .before .before .before .before .before .before .before .before .before .before .before .before .before .before .before .before .before .before .before .before .before .before .before .pre in
+    let g = going-made (r .0) (c .before .before .before .before .before .before .before .before .before .before .before .before .before .before .before .before .before .before .before .before .before .before .before .before .loop .inv .0) (c .before .before .before .before .before .before .before .before .before .before .before .before .before .before .before .before .make-room .ensures) in
     record {
-      inside = l .loop .inv .0;
-      passed = λ e rs v. onward-wrong (l .loop .inv .3 rs v) _ (c .before .before .before .before .before .before .before .before .before .before .head-at .ensures) (w .ends) (c .before .before .before .before .before .before .before .before .before .before .before .loop-test .taken) (c .before .before .before .before .before .before .before .turn .ensures) (c .before .if1 .taken) (eqb-false _ 2 e);
-      narrow = λ e. turn-full (o .table) (c .before .before .before .before .before .before .before .turn .ensures) (eqb-true _ 2 e) (omega (arith, l .before .before .before .before .pre .2));
+      above = g .going .above;
+      below = g .going .below;
+      within = g .going .within;
+      half = g .going .half;
+      gathered = λ rs w. onward-wrong (g .going .on rs w) _ (c .before .before .before .before .before .before .before .before .before .before .before .before .before .before .before .before .before .before .before .before .before .before .head-at .ensures) (r .0 .ends) (c .before .before .before .before .before .before .before .before .before .before .before .before .before .before .before .before .before .before .before .before .before .before .before .loop-test .taken) (c .before .before .before .before .before .before .before .turn .ensures) (c .if1 .taken);
     }
-
-add-at : tie.Need-add-at Inv-loop μ-loop
-add-at c =
-    let l = c .before .before .before .before .before .before .before .before .before .before .before .before in
-    let w = l .before .before .before .before .pre .0 in
-    let o = l .loop .inv .3 (w .records) (w .walk) in
-    let x = next o _ (c .before .before .before .before .before .before .before .before .before .before .head-at .ensures) (w .ends) (c .before .before .before .before .before .before .before .before .before .before .before .loop-test .taken) in
-    omega (arith, x .fits, w .ends)
-
-add-at-2 : tie.Need-add-at-2 Inv-loop μ-loop
-add-at-2 c =
-    let l = c .before .before .before .before .before .before .before .before .before .before .before .before in
-    let w = l .before .before .before .before .pre .0 in
-    let o = l .loop .inv .3 (w .records) (w .walk) in
-    let x = next o _ (c .before .before .before .before .before .before .before .before .before .before .head-at .ensures) (w .ends) (c .before .before .before .before .before .before .before .before .before .before .before .loop-test .taken) in
-    omega (arith, x .fits, w .ends)
 
 loop-less : tie.Need-loop-less Inv-loop μ-loop
 loop-less c =
-    let l = c .before .before .before .before .before .before .before .before .before .before .before .before in
-    let w = l .before .before .before .before .pre .0 in
-    let o = l .loop .inv .3 (w .records) (w .walk) in
-    let x = next o _ (c .before .before .before .before .before .before .before .before .before .before .head-at .ensures) (w .ends) (c .before .before .before .before .before .before .before .before .before .before .before .loop-test .taken) in
+    let r = c .before .before .before .before .before .before .before .before .before .before .before .before .before .before .before .before .before .before .before .before .before .before .before .before .before .before .before .before .before .before .before .before .pre in
+    let x = next (c .before .before .before .before .before .before .before .before .before .before .before .before .before .before .before .before .before .before .before .before .before .before .before .before .loop .inv .0 .on (r .0 .records) (r .0 .walk)) _ (c .before .before .before .before .before .before .before .before .before .before .before .before .before .before .before .before .before .before .before .before .before .before .head-at .ensures) (r .0 .ends) (c .before .before .before .before .before .before .before .before .before .before .before .before .before .before .before .before .before .before .before .before .before .before .before .loop-test .taken) in
     omega (arith, x .fits)
 
 loop-again : tie.Need-loop-again Inv-loop μ-loop
 loop-again c =
-    let l = c .before .before .before .before .before .before .before .before .before .before .before .before in
-    let w = l .before .before .before .before .pre .0 in
-    let o = l .loop .inv .3 (w .records) (w .walk) in
-    let x = next o _ (c .before .before .before .before .before .before .before .before .before .before .head-at .ensures) (w .ends) (c .before .before .before .before .before .before .before .before .before .before .before .loop-test .taken) in (
-      omega (arith, x .fits),
-      search needs,
-      search needs,
-      λ rs v. onward-next (l .loop .inv .3 rs v) _ (c .before .before .before .before .before .before .before .before .before .before .head-at .ensures) (w .ends) (c .before .before .before .before .before .before .before .before .before .before .before .loop-test .taken) (c .before .before .before .before .before .before .before .turn .ensures) (c .before .if1 .left),
+    let r = c .before .before .before .before .before .before .before .before .before .before .before .before .before .before .before .before .before .before .before .before .before .before .before .before .before .before .before .before .before .before .before .before .pre in
+    let g = going-made (r .0) (c .before .before .before .before .before .before .before .before .before .before .before .before .before .before .before .before .before .before .before .before .before .before .before .before .loop .inv .0) (c .before .before .before .before .before .before .before .before .before .before .before .before .before .before .before .before .make-room .ensures) in (
+      going-next _ (c .before .before .before .before .before .before .before .before .before .before .before .before .before .before .before .before .before .before .before .before .before .before .head-at .ensures) (r .0) (c .before .before .before .before .before .before .before .before .before .before .before .before .before .before .before .before .before .before .before .before .before .before .before .loop-test .taken) g (c .before .before .before .before .before .before .before .turn .ensures) (c .if1 .left) (omega (arith, c .before .before .before .before .before .before .before .turn .kept)) (omega (arith, c .before .before .before .before .before .before .before .turn .kept)) (omega (arith, c .before .before .before .before .before .before .before .turn .kept)),
+      omega (arith, c .before .before .before .before .before .before .before .before .before .before .before .before .before .before .before .before .make-room .kept, c .before .before .before .before .before .before .before .before .before .before .before .before .before .before .before .before .before .before .before .before .before .before .before .before .loop .inv .1),
+      omega (arith, c .before .before .before .before .before .before .before .turn .kept, c .before .before .before .before .before .before .before .before .before .before .before .before .before .before .before .before .make-room .kept, c .before .before .before .before .before .before .before .before .before .before .before .before .before .before .before .before .before .before .before .before .before .before .before .before .loop .inv .2),
+      omega (arith, c .before .before .before .before .before .before .before .turn .kept, c .before .before .before .before .before .before .before .before .before .before .before .before .before .before .before .before .before .before .before .before .before .before .before .before .loop .inv .3),
+      omega (arith, c .before .before .before .before .before .before .before .turn .kept, c .before .before .before .before .before .before .before .before .before .before .before .before .before .before .before .before .before .before .before .before .before .before .before .before .loop .inv .4),
     )
 
-sub-t20 : tie.Need-sub-t20 Inv-loop μ-loop
-sub-t20 c =
-    let l = c .before in
-    let w = l .before .before .before .before .pre .0 in
-    let o = l .loop .inv .3 (w .records) (w .walk) in
-    omega (arith, o .takes)
+same-length-5 : tie.Need-same-length-5 Inv-loop μ-loop
+same-length-5 c = search needs
 
-same-length-3 : tie.Need-same-length-3 Inv-loop μ-loop
-same-length-3 c = search needs
+same-length-6 : tie.Need-same-length-6 Inv-loop μ-loop
+same-length-6 c = search needs
 
-same-length-4 : tie.Need-same-length-4 Inv-loop μ-loop
-same-length-4 c = search needs
+same-length-7 : tie.Need-same-length-7 Inv-loop μ-loop
+same-length-7 c = search needs
+
+same-length-8 : tie.Need-same-length-8 Inv-loop μ-loop
+same-length-8 c = search needs
 
 returns-2 : tie.Need-returns-2 Inv-loop μ-loop
 returns-2 c =
-    let l = c .before .loop in
+    let g = c .before .loop .inv .0 in
     record {
-      inside = l .inv .0;
-      passed = λ _ rs v. onward-end (l .inv .3 rs v) (c .loop-test .left);
-      narrow = λ e. absurd (apart (sym e));
+      above = g .above;
+      below = g .below;
+      within = g .within;
+      half = g .half;
+      gathered = λ rs w. onward-end (g .on rs w) (c .loop-test .left);
     }
 
 pub pass-log-spec : {M : Type 1} → statement M
@@ -132,16 +131,19 @@ pass-log-spec =
     μ-loop
     loop-holds
     head-at-requires
+    add-next
+    add-next-2
+    make-room-requires
     turn-requires
-    sub-t18
     same-length
     same-length-2
-    returns
-    add-at
-    add-at-2
-    loop-less
-    loop-again
-    sub-t20
     same-length-3
     same-length-4
+    returns
+    loop-less
+    loop-again
+    same-length-5
+    same-length-6
+    same-length-7
+    same-length-8
     returns-2)

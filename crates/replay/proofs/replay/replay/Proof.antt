@@ -1,6 +1,7 @@
 -- `replay::replay::replay` meets its contract. Assumes nothing.
+use Prim.Native.Nat.{_-_}
 use borrow.Author.Needs.{needs}
-use Rattle.replay.proofs.Deciding.{call-refused, opens, walked, call-wrong, call-fits, call-right}
+use Rattle.replay.proofs.Deciding.{call-refused, opens, scans, call-wrong, call-right}
 use Rattle.replay.proofs.replay.replay.Statement.{statement}
 use Rattle.replay.proofs.replay.replay.Tie as tie
 
@@ -25,8 +26,9 @@ returns c = call-refused _ _ _ _ _ _ (c .before .before .check-replay .ensures) 
 scan-log-requires : tie.Need-scan-log-requires
 scan-log-requires c κs = search needs
 
-decide-requires : tie.Need-decide-requires
-decide-requires c κs = (walked (c .before .before .before .before .scan-log .ensures), opens _ _ _ _ (c .before .before .before .before .before .before .before .check-replay .ensures) (c .before .before .before .before .before .before .if1 .left))
+by-table-requires : tie.Need-by-table-requires
+by-table-requires c κs =
+    scans (c .before .before .before .before .scan-log .ensures) (opens _ _ _ _ (c .before .before .before .before .before .before .before .check-replay .ensures) (c .before .before .before .before .before .before .if1 .left))
 
 clear-requires : tie.Need-clear-requires
 clear-requires c κs = search needs
@@ -44,10 +46,9 @@ same-length-6 : tie.Need-same-length-6
 same-length-6 c = search needs
 
 returns-2 : tie.Need-returns-2
-returns-2 c = call-wrong _ _ _ _ _ _ _ _ (c .before .before .before .before .before .before .before .before .before .before .before .before .before .before .check-replay .ensures) (c .before .before .before .before .before .before .before .before .before .before .before .before .before .if1 .left) (c .before .before .before .before .before .before .before .before .before .before .before .scan-log .ensures) (c .before .before .before .before .before .before .decide .ensures) (c .before .before .before .before .before .if2 .taken) _ _ (c .before .before .before .before .before .before .before .before .before .before .words .given) (c .before .before .before .clear .ensures) (c .refused2 .ensures)
-
-write-back-requires : tie.Need-write-back-requires
-write-back-requires c κs = call-fits _ _ _ _ _ _ _ _ (c .before .before .before .before .before .before .before .before .before .before .before .check-replay .ensures) (c .before .before .before .before .before .before .before .before .before .before .if1 .left) (c .before .before .before .before .before .before .before .before .scan-log .ensures) (c .before .before .before .decide .ensures) (c .before .before .if2 .left)
+returns-2 c =
+    let t = c .before .before .before .before .before .before .before .before .before .before .before .by-table .ensures in
+    call-wrong _ _ _ _ _ _ _ _ (c .before .before .before .before .before .before .before .before .before .before .before .before .before .before .before .before .before .before .before .check-replay .ensures) (c .before .before .before .before .before .before .before .before .before .before .before .before .before .before .before .before .before .before .if1 .left) (c .before .before .before .before .before .before .before .before .before .before .before .before .before .before .before .before .scan-log .ensures) (t .decides) (c .before .before .before .before .before .if2 .taken) _ (t .kept (c .before .before .before .before .before .if2 .taken)) _ _ (c .before .before .before .before .before .before .before .before .before .before .before .before .before .before .before .words .given) (c .before .before .before .clear .ensures) (c .refused2 .ensures)
 
 same-length-7 : tie.Need-same-length-7
 same-length-7 c = search needs
@@ -59,7 +60,9 @@ same-length-9 : tie.Need-same-length-9
 same-length-9 c = search needs
 
 returns-3 : tie.Need-returns-3
-returns-3 c = call-right _ _ _ _ _ _ _ _ (c .before .before .before .before .before .before .before .before .before .before .before .before .before .before .before .before .check-replay .ensures) (c .before .before .before .before .before .before .before .before .before .before .before .before .before .before .before .if1 .left) (c .before .before .before .before .before .before .before .before .before .before .before .before .before .scan-log .ensures) (c .before .before .before .before .before .before .before .before .decide .ensures) (c .before .before .before .before .before .before .before .if2 .left) _ _ _ (c .before .before .before .before .write-back .ensures)
+returns-3 c =
+    let t = c .before .before .before .before .before .before .by-table .ensures in
+    call-right _ _ _ _ _ _ _ _ (c .before .before .before .before .before .before .before .before .before .before .before .before .before .before .check-replay .ensures) (c .before .before .before .before .before .before .before .before .before .before .before .before .before .if1 .left) (c .before .before .before .before .before .before .before .before .before .before .before .scan-log .ensures) (t .decides) (c .if2 .left) _ _ _ (t .written (c .if2 .left))
 
 pub replay-spec : {M : Type 1} → statement M
 replay-spec =
@@ -72,14 +75,13 @@ replay-spec =
     same-length-3
     returns
     scan-log-requires
-    decide-requires
+    by-table-requires
     clear-requires
     refused-requires-2
     same-length-4
     same-length-5
     same-length-6
     returns-2
-    write-back-requires
     same-length-7
     same-length-8
     same-length-9

@@ -16,7 +16,7 @@ helpers-requires c κs =
     let w = s .args .state .sponge .words in
     let sixteen : length w ≡ 16 = length-unmapped ℕ w 16 (s .good .0 .1 .1 .1 .1 .1 .1 .1 .1 .1 .1 .1 .0 .1 .1 .0 .1 .0 .1) in
     let h = accepted-helpable _ (c .before .check-machine .ensures) (c .if1 .taken) sixteen (search needs) in
-    record { slots = h .slots; deep = h .deep; used = h .used; words = h .words; digests = h .digests; addresses = h .addresses; values = h .values }
+    record { slots = h .slots; deep = h .deep; used = h .used; words = h .words; digests = h .digests; usable = h .usable }
 
 returns : tie.Need-returns
 returns c = helped-is _ (c .before .before .check-machine .ensures) (c .before .if1 .taken) (c .helpers .ensures .is _ _ _ _ _)

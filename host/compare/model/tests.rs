@@ -1,0 +1,144 @@
+//! The order of RAM's cells, on small machines.
+use super::replay::replay;
+use super::MODEL;
+use crate::field::P;
+use crate::instructions::named;
+use crate::lent::{answer, register, Machine, STEP_BYTES};
+use kixombu::{bytes_of, Record};
+
+/// What unused cells hold: no word, and it stays.
+const UNUSED: u64 = u64::MAX;
+
+/// A machine before one instruction, with these cells of so many, and these words on top of its stack, the top one last.
+fn machine(name: &str, argument: u64, cells: &[(u64, u64)], lent: usize, top: &[u64]) -> Machine {
+    let mut machine = Machine {
+        registers: vec![0; register::ALL],
+        opcodes: vec![named(name).opcode],
+        arguments: vec![argument],
+        op_stack: [&[0; 16], top].concat(),
+        addresses: vec![UNUSED; lent],
+        values: vec![UNUSED; lent],
+        ..Machine::default()
+    };
+    machine.registers[register::DEPTH] = machine.op_stack.len() as u64;
+    machine.registers[register::CELLS] = cells.len() as u64;
+    for (i, &(address, value)) in cells.iter().enumerate() {
+        (machine.addresses[i], machine.values[i]) = (address, value);
+    }
+    machine
+}
+
+/// All cells that are lent, and how many are used.
+fn cells(machine: &Machine) -> (Vec<(u64, u64)>, u64) {
+    let all = machine.addresses.iter().copied().zip(machine.values.iter().copied());
+    (all.collect(), machine.registers[register::CELLS])
+}
+
+fn step(machine: &mut Machine) -> u64 {
+    machine.step(&MODEL, &mut [0; STEP_BYTES])[answer::NUMBER]
+}
+
+#[test]
+fn a_new_cell_is_put_in_at_its_place() {
+    let opening = [(3, 30), (5, 50), (9, 90)];
+    for (address, place) in [(0, 0), (4, 1), (6, 2), (8, 2), (10, 3), (P - 1, 3)] {
+        let mut machine = machine("write_mem", 1, &opening, 5, &[7, address]);
+        assert_eq!(step(&mut machine), 0);
+        let mut expected = opening.to_vec();
+        expected.insert(place, (address, 7));
+        expected.push((UNUSED, UNUSED));
+        assert_eq!(cells(&machine), (expected, 4), "{address}");
+    }
+    let mut held = machine("write_mem", 1, &opening, 3, &[7, 5]);
+    assert_eq!(step(&mut held), 0);
+    assert_eq!(cells(&held), (vec![(3, 30), (5, 7), (9, 90)], 3));
+}
+
+#[test]
+fn a_write_across_p_goes_to_the_front() {
+    let mut machine = machine("write_mem", 3, &[(5, 50)], 5, &[13, 12, 11, P - 2]);
+    assert_eq!(step(&mut machine), 0);
+    assert_eq!(cells(&machine), (vec![(0, 13), (5, 50), (P - 2, 11), (P - 1, 12), (UNUSED, UNUSED)], 4));
+}
+
+#[test]
+fn all_of_a_write_or_nothing() {
+    let mut machine = machine("write_mem", 2, &[(5, 50), (7, 70)], 3, &[12, 11, 3]);
+    let before = machine.clone();
+    assert_eq!(step(&mut machine), 32);
+    assert_eq!(machine, before);
+    // of two addresses one is held
+    machine.op_stack[18] = 7;
+    assert_eq!(step(&mut machine), 0);
+    assert_eq!(cells(&machine), (vec![(5, 50), (7, 11), (8, 12)], 3));
+}
+
+#[test]
+fn reads_take_no_cell() {
+    let opening = [(0, 10), (2, 12), (P - 1, 9)];
+    let mut machine = machine("read_mem", 4, &opening, 3, &[2]);
+    machine.op_stack.extend([0; 4]);
+    assert_eq!(step(&mut machine), 0);
+    assert_eq!(machine.op_stack[16..], [12, 0, 10, 9, P - 2]);
+    assert_eq!(cells(&machine), (opening.to_vec(), 3));
+}
+
+#[test]
+fn place_a_asks_for_ascending_cells() {
+    let number = |addresses: &[u64], used: u64| {
+        let given: Vec<(u64, u64)> = addresses.iter().map(|&address| (address, 1)).collect();
+        let mut machine = machine("nop", 0, &given, addresses.len(), &[]);
+        machine.registers[register::CELLS] = used;
+        let before = machine.clone();
+        let number = step(&mut machine);
+        assert_eq!(machine.helper_variables(&MODEL).0, number);
+        let opened = before.clone().open(&MODEL, &[0; 5], used)[answer::NUMBER];
+        assert_eq!(opened, number);
+        let replayed = replay(&mut [0; 3], &[], 0, used, &mut addresses.to_vec(), &mut vec![1; addresses.len()], &mut []);
+        assert_eq!(replayed, number);
+        assert!(number == 0 || machine == before);
+        number
+    };
+    for (addresses, used, expected) in [
+        (&[][..], 0, 0),
+        (&[], 1, 5),
+        (&[4], 1, 0),
+        (&[0, 1, P - 1], 3, 0),
+        (&[4, 4], 2, 5),
+        (&[4, 4], 1, 0),
+        (&[5, 4], 2, 5),
+        (&[P - 1, 0], 2, 5),
+        (&[1, 2, 4, 3], 4, 5),
+        (&[1, 2, 4, 3], 3, 0),
+        (&[1, 3, 2, 4], 4, 5),
+        (&[4, 4, P], 2, 5),
+        // 2 is tried over all cells before 5, also where the count is too large
+        (&[4, 4, P], 3, 2),
+        (&[P, 4], 2, 2),
+        (&[4, P], u64::MAX, 2),
+        (&[4, 5], u64::MAX, 5),
+    ] {
+        assert_eq!(number(addresses, used), expected, "{addresses:?} {used}");
+    }
+}
+
+/// The same cells, however their writes come.
+#[test]
+fn replay_gives_cells_in_order() {
+    let write = |clock, address| Record::Ram { clock, address, value: address % 100, write: true };
+    let orders = [[P - 1, 0, 7, 3], [0, 3, 7, P - 1], [7, P - 1, 3, 0]];
+    for order in orders {
+        let log = bytes_of(&[write(0, order[0]), write(1, order[1]), write(2, order[2]), write(3, order[3]), write(4, 5)]);
+        let opening = ([5, 6, UNUSED, UNUSED, UNUSED, UNUSED, UNUSED], [50, 60, UNUSED, UNUSED, UNUSED, UNUSED, UNUSED]);
+        let (mut addresses, mut values) = opening;
+        let mut answer = [9; 3];
+        assert_eq!(replay(&mut answer, &log, u64::MAX, 2, &mut addresses, &mut values, &mut []), 0);
+        assert_eq!(answer, [0, 16, 6]);
+        assert_eq!(addresses, [0, 3, 5, 6, 7, P - 1, UNUSED]);
+        assert_eq!(values, [0, 3, 5, 60, 7, (P - 1) % 100, UNUSED]);
+        // a cell too few, and nothing is changed
+        let (mut addresses, mut values) = opening;
+        assert_eq!(replay(&mut answer, &log, u64::MAX, 2, &mut addresses[..5], &mut values[..5], &mut []), 44);
+        assert_eq!((answer, addresses, values), ([44, 0, 0], opening.0, opening.1));
+    }
+}
