@@ -28,14 +28,14 @@ use Rattle.exports.proofs.RegistersLaws.{state-registers}
 
 module _ (r : Registers) (a : List ℕ) (c : Code) (m : Memory) (b : List ℕ) where
   pub thin-called : {s : VMState} {x : Stepped} {n : Memory} {b2 : List ℕ} {p : Report} {a2 : List ℕ} {r2 : Registers} → length a ≡ 7 → s ≡ stateIn r →
-      Steps (machine s c m) b x n b2 → p ≡ stepReport (answerIn (x .answer)) (x .bytes) → a2 ≡ answerOf p → r2 ≡ registersIn (x .state) →
+      Steps (machine s c m) b x n b2 → p ≡ stepReport (answerIn (x .answer)) (x .bytes) → a2 ≡ answerOf p → r2 ≡ registersIn r (x .state) →
       thinly (p .number) r2 a2 n b2 ≡ thinCall r a c m b
   unfolding thinCall
   thin-called {s} {x} {n} {b2} h f k i j l =
       rw (eq-eqb _ 7 h)
       ((λ d. thinly (i d .number) (l d) ((j ∙ ap answerOf i) d) n (k .buffer d))
-      ∙ (λ d. told (stepReport (k .gives .answer d) (k .bytes d)) (k .gives .left d) (stepOf (machine s c m) b .buffer))
-      ∙ ap (λ (y : VMState). thinGives (machine y c m) (stepOf (machine y c m) b)) f)
+      ∙ (λ d. told r (stepReport (k .gives .answer d) (k .bytes d)) (k .gives .left d) (stepOf (machine s c m) b .buffer))
+      ∙ ap (λ (y : VMState). thinGives r (machine y c m) (stepOf (machine y c m) b)) f)
 
   pub thin-misfits : (length a ≡ 7 → ⊥) → thinly 1 r a m b ≡ thinCall r a c m b
   unfolding thinCall
@@ -46,7 +46,7 @@ module _ (r : Registers) (a : List ℕ) (c : Code) (m : Memory) (b : List ℕ) w
   unfolding thinCall
   thin-kept h q e =
       let k = refused-buffer decideOf (machine (stateIn r) c m) b q e in
-      rw (eq-eqb _ 7 h) (λ d. told (stepReport (answeredBy (e d)) (k .0 d)) (leftBy (machine (stateIn r) c m) (e d)) (k .1 d))
+      rw (eq-eqb _ 7 h) (λ d. told r (stepReport (answeredBy (e d)) (k .0 d)) (leftBy (machine (stateIn r) c m) (e d)) (k .1 d))
 
 -- ---- over words
 
@@ -64,7 +64,7 @@ unfolding readableOf registersOf
 readable r small long = rw (long, lt-ltb (r .clock) 4294967296 small, small-mark (r .halted), small-mark (r .set))
 
 either : (t : Bool) (r : Registers) (a : List ℕ) (m : Memory) (b : List ℕ) (x : Machine) (s : Outcomes) →
-    cond t (stepGives x s) (recorded (called 1 (registersOf (stateIn r)) (cond t (answerOf misfit) a) m) b) ≡ wordsOf (cond t (thinGives x s) (thinly 1 r a m b))
+    cond t (stepGives x s) (recorded (called 1 (registersOf (stateIn r)) (cond t (answerOf misfit) a) m) b) ≡ wordsOf (cond t (thinGives r x s) (thinly 1 r a m b))
 either true r a m b x s = refl
 either false r a m b x s = refl
 

@@ -30,10 +30,12 @@ stateIn r =
       halted = r .halted;
     }
 
-abbrev pub registersIn : VMState → Registers
-registersIn s =
+-- the state's registers in the place of the record r, whose reserved fields stay
+abbrev pub registersIn : Registers → VMState → Registers
+registersIn r s =
     record {
       clock = s .clock;
+      reserved = r .reserved;
       pointer = s .pointer;
       depth = s .depth;
       jumps = s .jumps;
@@ -44,6 +46,8 @@ registersIn s =
       digests = s .digests;
       halted = s .halted;
       set = s .sponge .set;
+      reserved2 = r .reserved2;
+      reserved4 = r .reserved4;
       words = s .sponge .words;
     }
 
@@ -61,13 +65,13 @@ abbrev pub thinly : ℕ → Registers → List ℕ → Memory → List ℕ → T
 thinly n r a m b = record { number = n; registers = r; answer = a; memory = m; buffer = b }
 
 -- what a report says, and the machine and the call buffer then
-abbrev pub told : Report → Machine → List ℕ → Thin
-told p m b = thinly (p .number) (registersIn (m .state)) (answerOf p) (m .memory) b
+abbrev pub told : Registers → Report → Machine → List ℕ → Thin
+told r p m b = thinly (p .number) (registersIn r (m .state)) (answerOf p) (m .memory) b
 
 -- from a machine m
-abbrev pub thinGives : Machine → Stepped → Thin
-thinGives m s = told (stepReport (answeredBy (s .outcome)) (s .bytes)) (leftBy m (s .outcome)) (s .buffer)
+abbrev pub thinGives : Registers → Machine → Stepped → Thin
+thinGives r m s = told r (stepReport (answeredBy (s .outcome)) (s .bytes)) (leftBy m (s .outcome)) (s .buffer)
 
 -- a is the answer and b the call buffer. An answer that has not seven words gives number 1, and nothing is changed
 unfoldable pub thinCall : Registers → List ℕ → Code → Memory → List ℕ → Thin
-thinCall r a c m b = cond (eqb (length a) 7) (thinGives (machine (stateIn r) c m) (stepOf (machine (stateIn r) c m) b)) (thinly 1 r a m b)
+thinCall r a c m b = cond (eqb (length a) 7) (thinGives r (machine (stateIn r) c m) (stepOf (machine (stateIn r) c m) b)) (thinly 1 r a m b)

@@ -34,10 +34,10 @@
 // bytes; words is the stack slice, all 0 before the call.
 //
 // triton_step_registers is triton_step with the registers as a struct that is lent, `Registers` in src/thin.rt. A mirror in Rust is `#[repr(C)]`
-// with the same fields in the same order; it has 208 bytes:
-//     0 clock, 4 bytes
+// with the same fields in the same order; it has 208 bytes, and those that are reserved stay as they are:
+//     0 clock, 4 reserved, 4 bytes each
 //     8 pointer, 16 depth, 24 jumps, 32 cells, 40 outputs, 48 publics, 56 secrets, 64 digests, 8 bytes each
-//    72 halted, 73 whether the sponge is set, a byte each, 0 or 1
+//    72 halted, 73 whether the sponge is set, a byte each, 0 or 1; 74 to 79 reserved
 //    80 to 207 the sponge's words
 //
 // Each call gives the number too. One of these slices with another length, a clock at or above 2^32 and a mark other than 0 or 1 give 1: then

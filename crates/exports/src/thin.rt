@@ -8,10 +8,12 @@ use machine::state::VMState;
 use tip5::sponge::Sponge;
 use vm::step::step;
 
-// The registers as C lays them out: 208 bytes.
+// The registers as C lays them out: 208 bytes, each of them a field's. The three reserved fields stay as they are; without them the
+// compiler would fill their bytes with what stood on the stack, since the record is stored whole.
 #[repr(C)]
 pub struct Registers {
     pub clock: u32,
+    pub reserved: u32,
     pub pointer: u64,
     pub depth: usize,
     pub jumps: usize,
@@ -23,6 +25,8 @@ pub struct Registers {
     pub halted: bool,
     // Whether the sponge is set, and its words.
     pub set: bool,
+    pub reserved2: u16,
+    pub reserved4: u32,
     pub words: [u64; 16],
 }
 
@@ -55,13 +59,15 @@ fn state_in(r: Registers) -> VMState
     }
 }
 
-fn registers_in(s: VMState) -> Registers
-    ensures { λ r. ⌜ r ≡ registersIn s ⌝ }
+// The registers behind a call, in the place of the record r.
+fn registers_in(r: Registers, s: VMState) -> Registers
+    ensures { λ x. ⌜ x ≡ registersIn r s ⌝ }
 {
     let sponge = s.sponge;
     let words = sponge.words;
     Registers {
         clock: s.clock,
+        reserved: r.reserved,
         pointer: s.pointer,
         depth: s.depth,
         jumps: s.jumps,
@@ -72,6 +78,8 @@ fn registers_in(s: VMState) -> Registers
         digests: s.digests,
         halted: s.halted,
         set: sponge.set,
+        reserved2: r.reserved2,
+        reserved4: r.reserved4,
         words: words,
     }
 }
@@ -117,7 +125,7 @@ pub fn step_reply(
         let answered = r.answer;
         let report = step_report(answered, r.bytes);
         write_answer(answer, report);
-        let left = registers_in(r.state);
+        let left = registers_in(registers, r.state);
         Reply {
             number: report.number,
             state: left,

@@ -3,12 +3,14 @@ use crate::exports::register;
 use std::mem::{align_of, offset_of, size_of};
 
 /// The registers as the record that [`step_registers`](crate::exports::step_registers) is lent: what the words of a register slice
-/// say, under names, as C lays it out (208 bytes; `Registers` of the crate `exports`, `src/thin.rt`).
+/// say, under names, as C lays it out (208 bytes without a gap; `Registers` of the crate `exports`, `src/thin.rt`).
 #[repr(C)]
 #[derive(Clone, Copy, Debug, PartialEq, Eq)]
 pub struct Registers {
     /// The steps taken.
     pub clock: u32,
+    /// Kept as it is.
+    pub reserved: u32,
     /// The instruction pointer.
     pub pointer: u64,
     /// Used words of the op stack.
@@ -29,6 +31,10 @@ pub struct Registers {
     pub halted: bool,
     /// Whether the sponge is set.
     pub set: bool,
+    /// Kept as it is.
+    pub reserved2: u16,
+    /// Kept as it is.
+    pub reserved4: u32,
     /// The sponge's words.
     pub words: [u64; 16],
 }
@@ -37,6 +43,7 @@ pub struct Registers {
 const _: () = {
     assert!(size_of::<Registers>() == 208 && align_of::<Registers>() == 8);
     assert!(offset_of!(Registers, clock) == 0 && offset_of!(Registers, pointer) == 8 && offset_of!(Registers, depth) == 16);
+    assert!(offset_of!(Registers, reserved) == 4 && offset_of!(Registers, reserved2) == 74 && offset_of!(Registers, reserved4) == 76);
     assert!(offset_of!(Registers, jumps) == 24 && offset_of!(Registers, cells) == 32 && offset_of!(Registers, outputs) == 40);
     assert!(offset_of!(Registers, publics) == 48 && offset_of!(Registers, secrets) == 56 && offset_of!(Registers, digests) == 64);
     assert!(offset_of!(Registers, halted) == 72 && offset_of!(Registers, set) == 73 && offset_of!(Registers, words) == 80);
@@ -51,6 +58,7 @@ impl Registers {
         let mark = |place: usize| (words[place] < 2).then_some(words[place] == 1);
         Some(Registers {
             clock: words[register::CLOCK].try_into().ok()?,
+            reserved: 0,
             pointer: words[register::POINTER],
             depth: size(register::DEPTH),
             jumps: size(register::JUMPS),
@@ -61,6 +69,8 @@ impl Registers {
             digests: size(register::DIGESTS),
             halted: mark(register::HALTED)?,
             set: mark(register::SPONGE_SET)?,
+            reserved2: 0,
+            reserved4: 0,
             words: std::array::from_fn(|i| words[register::SPONGE + i]),
         })
     }

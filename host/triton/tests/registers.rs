@@ -92,3 +92,22 @@ fn an_answer_of_another_length_is_refused() {
         assert_eq!((record, lent.clone(), answer), (before.0, before.1.clone(), vec![9; length]));
     }
 }
+
+/// All 208 bytes of the record are fields, the reserved ones too: nothing of the stack gets into it.
+#[test]
+fn every_byte_of_the_record_follows() {
+    // clock and the first reserved field; pointer to digests; the marks and the others; the sponge's words
+    assert_eq!(std::mem::size_of::<Registers>(), (4 + 4) + 8 * 8 + (1 + 1 + 2 + 4) + 16 * 8);
+    let code = Code { opcodes: &[8], arguments: &[0], public: &[], secret: &[], digests: &[] };
+    for (length, depth, number) in [(answer::ALL - 1, 16, 1), (answer::ALL, 15, 5), (answer::ALL, 16, 0)] {
+        let mut record = Registers::from_words(&[0; register::ALL]).unwrap();
+        (record.depth, record.reserved, record.reserved2, record.reserved4) = (depth, 0xaaaa_aaaa, 0xaaaa, 0x5555_5555);
+        let mut expected = record;
+        if number == 0 {
+            (expected.clock, expected.pointer) = (1, 1);
+        }
+        let (mut lent, mut answer) = (Lent::new(), vec![0; length]);
+        let (memory, calls) = lent.parts();
+        assert_eq!((exports::step_registers(&mut record, &mut answer, code, memory, calls), record), (number, expected));
+    }
+}
