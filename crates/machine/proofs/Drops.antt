@@ -2,7 +2,7 @@
 -- leaves, as it accepts what a step and a run leave. Assumes nothing.
 use mathlib.Core.Path.{_≡_, refl, subst}
 use mathlib.Core.Bool.{Bool, true, false}
-use Prim.Native.Nat.{ℕ, _+_, _^_, _≤_}
+use Prim.Native.Nat.{ℕ, _+_, _^_, _≤_, _<_}
 use native.Mathlib.Omega.{arith}
 use borrow.Author.Tests.{eqb-true, ltb-false}
 use lib.ListN.{length}
@@ -27,7 +27,7 @@ use Rattle.machine.specs.PlaceA.{machineA}
 use Rattle.machine.specs.Step.{outcomeBy, runOf}
 use Rattle.machine.specs.Sound.{Sound}
 use Rattle.machine.proofs.Rows.{Each, gathered, each-decode}
-use Rattle.machine.proofs.PlaceA.{machine-accepted}
+use Rattle.machine.proofs.PlaceA.{machine-sound, machine-accepted}
 use Rattle.machine.proofs.Facts.{facts}
 use Rattle.machine.proofs.Step.{step-sound, step-lost}
 use Rattle.machine.proofs.Run.{lost-sound, run-sound}
@@ -185,13 +185,18 @@ drops-deep m r e = drops-skiz m r e .deep
 pub lost-at-skiz : (m : Machine) (r : Refusal) (x : Machine) → outcomeBy decideOf m ≡ lost r x → AtSkiz m r × (dropped m ≡ x)
 lost-at-skiz m r x e = let k = step-lost decideOf m r x e in (drops-skiz m r (k .0), k .1)
 
--- ---- what a step and a run leave passes place A
+-- ---- what a step and a run leave of what place A accepts, it accepts again. A sponge of sixteen words and a clock of 32 bits are what the
+-- state's types say
 
-pub took-accepted : (m x : Machine) → Sound m → outcomeBy decideOf m ≡ took x → machineA x ≡ 0
-took-accepted m x s e = machine-accepted x (step-sound decideOf facts m x s e)
+module _ (m : Machine) (sixteen : length (m .state .sponge .words) ≡ 16) (clock : m .state .clock < 4294967296) (accepted : machineA m ≡ 0) where
+  sound : Sound m
+  sound = machine-sound m sixteen clock accepted
 
-pub lost-accepted : (m : Machine) (r : Refusal) (x : Machine) → Sound m → outcomeBy decideOf m ≡ lost r x → machineA x ≡ 0
-lost-accepted m r x s e = machine-accepted x (lost-sound decideOf facts (λ m s r e. drops-deep m r e) m r x s e)
+  pub took-accepted : (x : Machine) → outcomeBy decideOf m ≡ took x → machineA x ≡ 0
+  took-accepted x e = machine-accepted x (step-sound decideOf facts m x sound e)
 
-pub run-accepted : (n : ℕ) (m : Machine) → Sound m → machineA (runOf n m .left) ≡ 0
-run-accepted n m s = machine-accepted (runOf n m .left) (run-sound decideOf facts (λ m s r e. drops-deep m r e) n m s)
+  pub lost-accepted : (r : Refusal) (x : Machine) → outcomeBy decideOf m ≡ lost r x → machineA x ≡ 0
+  lost-accepted r x e = machine-accepted x (lost-sound decideOf facts (λ m s r e. drops-deep m r e) m r x sound e)
+
+  pub run-accepted : (n : ℕ) → machineA (runOf n m .left) ≡ 0
+  run-accepted n = machine-accepted (runOf n m .left) (run-sound decideOf facts (λ m s r e. drops-deep m r e) n m sound)

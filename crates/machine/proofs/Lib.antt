@@ -33,6 +33,7 @@ pub mod ProvedTable
 pub mod Step
 pub mod Run
 pub mod Drops
+pub mod Whole
 pub mod Cancels
 pub mod Bits
 pub mod Window

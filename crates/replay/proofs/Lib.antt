@@ -9,6 +9,7 @@ pub mod Bytes
 pub mod Demand3
 pub mod Job
 pub mod Triton
+pub mod Witness
 pub mod LastWrite
 pub mod Decide
 pub mod Refused

@@ -1,0 +1,74 @@
+-- A refused call, said whole: everything that was handed in is as it was, but that skiz drops its word, and that a run keeps the steps before the
+-- refused one. Assumes nothing.
+use mathlib.Core.Path.{_≡_, refl, sym, ap, subst, _∙_}
+use mathlib.Core.Bool.{Bool, true, false}
+use mathlib.Core.List.{List}
+use Prim.Native.Nat.{ℕ}
+use native.Mathlib.Omega.{arith}
+use borrow.Author.Tests.{eqb-true, eqb-false}
+use lib.Dec.{eqb}
+use Rattle.machine.specs.Choice.{cond}
+use Rattle.machine.specs.Refusal.{Refusal, plainly}
+use Rattle.machine.specs.Machine.{Code, Memory, Machine}
+use Rattle.machine.specs.Decide.{decideOf}
+use Rattle.machine.specs.Apply.{Outcome, took, kept, lost, dropped}
+use Rattle.machine.specs.PlaceA.{openA, machineA, stepA}
+use Rattle.machine.specs.Open.{opened, openOf}
+use Rattle.machine.specs.Step.{Stepped, stepOf, outcomeBy, Ran, ran, refused, runOf}
+use Rattle.machine.proofs.Step.{step-outcome, refused-buffer, lost-buffer}
+use Rattle.machine.proofs.Run.{RefusedAfter, run-refused-after}
+use Rattle.machine.proofs.Refused.{open-accepts, open-refuses, run-refuses}
+use Rattle.machine.proofs.Drops.{AtSkiz, lost-at-skiz}
+
+-- what a step that is refused gives, from the machine m with the call buffer b
+pub data StepRefused (m : Machine) (b : List ℕ) : Stepped → Type 0 where
+  -- machine and buffer stay
+  unchanged : {r : Refusal} → StepRefused m b (record { outcome = kept r; bytes = 0; buffer = b })
+  -- skiz on 0 where no slot is next, number 11: its word is dropped, and nothing else
+  word-dropped : {r : Refusal} → AtSkiz m r → StepRefused m b (record { outcome = lost r (dropped m); bytes = 0; buffer = b })
+
+-- place A gives no machine, so what is lost is lost behind it
+lost-behind : (t : Bool) (o : Outcome) (w r : Refusal) (x : Machine) → cond t o (kept w) ≡ lost r x → o ≡ lost r x
+lost-behind true o w r x e = e
+lost-behind false o w r x e = let z : _≡_ {A = ℕ} 0 1 = cc in absurd (omega arith)
+
+pub step-refused : (m : Machine) (b : List ℕ) → ((x : Machine) → stepOf m b .outcome ≡ took x → ⊥) → StepRefused m b (stepOf m b)
+step-refused m b h = go (stepOf m b .outcome) refl
+  where
+    go : (o : Outcome) → stepOf m b .outcome ≡ o → StepRefused m b (stepOf m b)
+    go (took x) e = absurd (h x e)
+    go (kept r) e =
+        let k = refused-buffer decideOf m b r e in
+        let q : (record { outcome = kept r; bytes = 0; buffer = b }) ≡ stepOf m b = λ d. record { outcome = sym e d; bytes = sym (k .0) d; buffer = sym (k .1) d } in
+        subst (StepRefused m b) q unchanged
+    go (lost r x) e =
+        let k = lost-buffer decideOf m b r x e in
+        let l = lost-at-skiz m r x (lost-behind (eqb (stepA m b) 0) (outcomeBy decideOf m) (plainly (stepA m b)) r x (sym (step-outcome decideOf m b) ∙ e)) in
+        let q : (record { outcome = lost r (dropped m); bytes = 0; buffer = b }) ≡ stepOf m b = λ d. record { outcome = sym (e ∙ ap (lost r) (sym (l .1))) d; bytes = sym (k .0) d; buffer = sym (k .1) d } in
+        subst (StepRefused m b) q (word-dropped (l .0))
+
+-- ---- open
+
+pub open-refused : (g : List ℕ) (c : Code) (m : Memory) (n : ℕ) → ((x : Machine) → openOf g c m n ≡ took x → ⊥) → openOf g c m n ≡ kept (plainly (openA g c m n))
+open-refused g c m n h = open-refuses g c m n (λ e. h (opened g c m n) (open-accepts g c m n e))
+
+-- ---- run
+
+-- what a run that is refused with w gives, from the machine m: place A refuses it, and nothing is changed; or it has taken steps, which are kept, and the
+-- refused one leaves what a refused step leaves
+pub data RunRefused (m : Machine) (w : Refusal) : Ran → Type 0 where
+  at-once : RunRefused m w (ran 0 (refused w) m)
+  after : {r : Ran} → RefusedAfter decideOf m w r → RunRefused m w r
+
+ending-is : (w v : Refusal) → refused v ≡ refused w → v ≡ w
+ending-is w v e = cc
+
+pub run-refused : (n : ℕ) (m : Machine) (w : Refusal) → runOf n m .ending ≡ refused w → RunRefused m w (runOf n m)
+run-refused n m w h = go (eqb (machineA m) 0) refl
+  where
+    go : (t : Bool) → eqb (machineA m) 0 ≡ t → RunRefused m w (runOf n m)
+    go true e = after (run-refused-after decideOf n m w (eqb-true (machineA m) 0 e) h)
+    go false e =
+        let k = run-refuses decideOf n m (eqb-false (machineA m) 0 e) in
+        let q = ending-is w (plainly (machineA m)) (ap (λ (r : Ran). r .ending) (sym k) ∙ h) in
+        subst (RunRefused m w) (sym (k ∙ ap (λ (v : Refusal). ran 0 (refused v) m) q)) at-once
