@@ -35,9 +35,9 @@ sorted-ascends {c} s = ascending-rises (c .addresses) (c .count) (s .usable .ord
 pub firsts-ascend : (c : Cells) (k : ℕ) → Ascending c → k ≤ c .count → Ascending (firsts c k)
 firsts-ascend c k r h i j l m = r i j l (omega arith)
 
-pub not-true : (t : Bool) → (t ≡ true → ⊥) → t ≡ false
-not-true true h = absurd (h refl)
-not-true false h = refl
+pub false-by : (t : Bool) → (t ≡ true → ⊥) → t ≡ false
+false-by true h = absurd (h refl)
+false-by false h = refl
 
 -- two tests that hold together are the same
 pub same-test : (s t : Bool) → (s ≡ true → t ≡ true) → (t ≡ true → s ≡ true) → s ≡ t
@@ -48,7 +48,7 @@ same-test false false h k = refl
 -- ---- no cell
 
 pub has-none : (s v : List ℕ) (a : ℕ) → has (cells 0 s v) a ≡ false
-has-none s v a = not-true (has (cells 0 s v) a) (λ h. omega (arith, has-where (cells 0 s v) a h .0))
+has-none s v a = false-by (has (cells 0 s v) a) (λ h. omega (arith, has-where (cells 0 s v) a h .0))
 
 pub held-none : (c : Cells) (a : ℕ) → has c a ≡ false → held c a ≡ 0
 held-none c a h = sym (read-absent c a (placeOf c a) (sym (has-not c a h)))
@@ -116,7 +116,7 @@ module _ (c : Cells) (r : Ascending c) (b k x : ℕ) (e : placeOf c b ≡ k) (la
   under-top a h l = omega (arith, all-under (placeOf c a) (omega (arith, has-before c r a b h l)), has-where c a h .1)
 
   pub under-lacks : x < b → has c x ≡ false
-  under-lacks l = not-true (has c x) (λ h. omega (arith, under-top x h l))
+  under-lacks l = false-by (has c x) (λ h. omega (arith, under-top x h l))
 
 -- ---- cut at a threshold: the cells below it
 
@@ -143,7 +143,7 @@ module _ (c : Cells) (r : Ascending c) (b : ℕ) where
       go true e =
           same-test (has (cut c b) a) (has c a) (λ h. in-both h .1)
           (λ h. let w = cut-place a h (ltb-true a b e) in has-at (cut c b) cut-ascends (placeOf c a) a (w .0) (w .1))
-      go false e = not-true (has (cut c b) a) (λ h. omega (arith, in-both h .0, ltb-false a b e))
+      go false e = false-by (has (cut c b) a) (λ h. omega (arith, in-both h .0, ltb-false a b e))
 
   pub cut-held : (a : ℕ) → a < b → held (cut c b) a ≡ held c a
   cut-held a l = go (has c a) refl

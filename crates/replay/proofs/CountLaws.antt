@@ -9,13 +9,14 @@ use borrow.Author.Tests.{eqb-true, eqb-false, eq-eqb, ne-eqb}
 use lib.ListN.{length, getD}
 use lib.Dec.{eqb}
 use Rattle.machine.specs.Choice.{cond}
-use Rattle.machine.specs.Ram.{Cells, cells, placeOf, has, stored}
+use Rattle.machine.specs.Ram.{Cells, cells, has, stored}
 use Rattle.machine.specs.Records.{Record, other, stack, ram}
-use Rattle.machine.proofs.RamLaws.{has-is, stands-not, has-stored, ascending-rises}
+use Rattle.machine.proofs.RamLaws.{has-stored, ascending-rises}
 use Rattle.machine.proofs.Order.{has-there, next-absent, next-cell}
 use Rattle.replay.specs.LastWrite.{wroteOf, hadOf}
 use Rattle.replay.specs.Merge.{Sorted, lacked}
 use Rattle.replay.specs.Group.{inside, newIn, cellsIn, noCells, distinctIn}
+use Rattle.replay.proofs.CellsLaws.{has-none}
 use Rattle.replay.proofs.GroupLaws.{apart, inside-true, cells-append, cells-both, cells-few}
 
 -- ---- records in two parts
@@ -161,9 +162,6 @@ module _ (lo hi : ℕ) (c : Cells) where
 
 -- ---- what a table has and c lacks
 
-none-has : (t : Cells) (a : ℕ) → t .count ≡ 0 → has t a ≡ false
-none-has t a e = has-is t a ∙ stands-not t (placeOf t a) a (λ l q. omega arith)
-
 -- the addresses that t has and c lacks
 abbrev lacking : Cells → Cells → ℕ → Bool
 lacking c t a = cond (has t a) (not (has c a)) false
@@ -195,7 +193,7 @@ module _ (t : Cells) (z : Sorted t) where
   -- addresses below hi
   lacked-count : (hi : ℕ) (c : Cells) → ((k : ℕ) → k < t .count → getD (t .addresses) k 0 < hi) → (k : ℕ) → k ≤ t .count → lacked c t k ≡ countTo hi (lacking c (first t k))
   unfolding lacked
-  lacked-count hi c b zero l = sym (count-alike hi (lacking c (first t 0)) (λ a. false) (λ a m. rw (none-has (first t 0) a refl)) ∙ count-none hi)
+  lacked-count hi c b zero l = sym (count-alike hi (lacking c (first t 0)) (λ a. false) (λ a m. rw (has-none (t .addresses) (t .values) a)) ∙ count-none hi)
   lacked-count hi c b (suc k) l = rw (lacked-count hi c b k (omega arith)) (go (has c (getD (t .addresses) k 0)) refl)
     where
       go : (x : Bool) → has c (getD (t .addresses) k 0) ≡ x → countTo hi (lacking c (first t k)) + cond x 0 1 ≡ countTo hi (lacking c (first t (suc k)))
@@ -227,7 +225,7 @@ cells-lacked lo hi c t done z only same =
 lacked-none : (t : Cells) (k : ℕ) → lacked noCells t k ≡ k
 unfolding lacked
 lacked-none t zero = refl
-lacked-none t (suc k) = rw (none-has noCells (getD (t .addresses) k 0) refl) (omega (arith, lacked-none t k))
+lacked-none t (suc k) = rw (has-none [] [] (getD (t .addresses) k 0)) (omega (arith, lacked-none t k))
 
 pub cells-distinct : (lo hi : ℕ) (t : Cells) (done : List Record) → Sorted t → ((a : ℕ) → has t a ≡ true → inside lo hi a ≡ true) → ((a : ℕ) → inside lo hi a ≡ true → has t a ≡ hadOf done a false) →
     t .count ≡ distinctIn lo hi done

@@ -16,7 +16,7 @@ use Rattle.machine.specs.declared.ram.Found.the-variants.{At, Absent}
 use Rattle.machine.proofs.RamLaws.{place-le, place-below, place-is}
 use Rattle.machine.proofs.Order.{has-there, has-where}
 use Rattle.replay.specs.Merge.{storedAll, lacked, Merging, Merged, Topped, of-own, of-both, of-new, Lacked, LacksOne}
-use Rattle.replay.proofs.CellsLaws.{addressAt, valueAt, Ascending, sorted-ascends, not-above, place-at, before-place, has-before, held-at, Highest, highest, under-place, under-top, under-lacks, place-most, place-same, address-same, value-same, not-true, same-lists}
+use Rattle.replay.proofs.CellsLaws.{addressAt, valueAt, Ascending, sorted-ascends, not-above, place-at, before-place, has-before, held-at, Highest, highest, under-place, under-top, under-lacks, place-most, place-same, address-same, value-same, false-by, same-lists}
 use Rattle.replay.proofs.StoresLaws.{Stores, stores, lacked-next}
 
 -- all cells of t stored into c
@@ -213,7 +213,7 @@ module _ (c t : Cells) (total : ℕ) (given : Merging c t total) where
         record { is = λ d. cells (e d) (x d) (y d) }
       where
         none : (y : ℕ) → y < m .bound → has t y ≡ false
-        none y s = not-true (has t y) (λ h. omega (arith, has-before t rises-new y (m .bound) h s, m .new))
+        none y s = false-by (has t y) (λ h. omega (arith, has-before t rises-new y (m .bound) h s, m .new))
 
         same : (y : ℕ) → y < m .bound → has c y ≡ has (whole c t) y
         same y s = sym (all-stored .has-is y ∙ rw (none y s))

@@ -123,16 +123,7 @@ module _ (c t r : Cells) (k : ℕ) (q : Stores c t k r) (s : Sorted t) (l : k < 
             ∙ rw (q .has-is a, next-has t k s l a) (of-has (eqb a (addressAt t k)) (has (firsts t k) a) (has c a));
         held-is = λ a. held-stored r (addressAt t k) (valueAt t k) more-fits (q .sorted .pair) a
             ∙ rw (q .held-is a, next-has t k s l a, next-held t k s l a) (of-held (eqb a (addressAt t k)) (has (firsts t k) a) (valueAt t k) (held (firsts t k) a) (held c a));
-        sorted = record {
-          usable = record {
-            ordered = record {
-              within = omega (arith, more-fits, lengths .0);
-              ascending = stored-ascending r (addressAt t k) (valueAt t k) more-fits (q .sorted .pair) (q .sorted .usable .ordered .ascending);
-            };
-            values = omega (arith, more-fits, q .sorted .pair, lengths .1);
-          };
-          pair = lengths .0 ∙ q .sorted .pair ∙ sym (lengths .1);
-        };
+        sorted = stored-sorted r (addressAt t k) (valueAt t k) (q .sorted) more-fits;
         addresses = lengths .0 ∙ q .addresses;
         values = lengths .1 ∙ q .values;
         behind = λ i h.

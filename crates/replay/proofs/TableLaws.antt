@@ -1,13 +1,13 @@
 -- A group's table: what it says of an address, after one record more, after its late cells are merged, and after it is halved.
 -- Assumes nothing.
-use mathlib.Core.Path.{_≡_, refl, sym, _∙_}
+use mathlib.Core.Path.{_≡_, refl, sym, subst, _∙_}
 use mathlib.Core.Bool.{Bool, true, false}
 use mathlib.Core.List.{List, [], _∷_, _++_}
 use Prim.Native.Nat.{ℕ, zero, suc, _+_, _-_, _/_, _≤_, _<_}
 use native.Mathlib.Omega.{arith}
-use borrow.Author.Tests.{eqb-true, ltb-true, lt-ltb}
+use borrow.Author.Tests.{eqb-true, ltb-true, lt-ltb, leb-false}
 use lib.ListN.{length, getD, set}
-use lib.Dec.{eqb, ltb}
+use lib.Dec.{eqb, ltb, leb}
 use Rattle.machine.specs.Choice.{cond}
 use Rattle.machine.specs.Ram.{Cells, cells, at, absent, find, held, has, stored, placeOf, fallsOf}
 use Rattle.machine.specs.RamView.{Room, Stored}
@@ -18,6 +18,7 @@ use Rattle.replay.specs.Merge.{Sorted, storedAll, lacked, Merging, Merge
 use Rattle.replay.specs.Group.{inside, RightAt, of-other, of-stack, of-write, of-outside, WrongAt}
 use Rattle.replay.specs.GroupView.{Touches, by-other, by-stack, by-outside, by-unchecked, by-right, by-wrong, by-write}
 use Rattle.replay.specs.LastWrite.{wroteOf, hadOf}
+use Rattle.replay.specs.TableView.{Waits}
 use Rattle.replay.specs.Table.{seen, known, Paired, Table, Puts, in-table, in-late, Makes, left, merged, halved}
 use Rattle.machine.specs.Records.{Record, other, stack, ram}
 use Rattle.replay.proofs.CountLaws.{wrote-append, had-append}
@@ -228,8 +229,14 @@ module _ {lo hi : ℕ} {done : List Record} {t : Cells} {s v : List ℕ} (k : Ta
 
 -- ---- room made
 
-pub made-merged : (t l d : Cells) (hi : ℕ) → d .count ≡ t .count + l .count → Merged t l d → d .count < length (t .addresses) → Makes t l hi d 0 hi
-made-merged t l d hi e m h = rw (m .is) (merged (omega arith))
+pub waits-by : (n m most late : ℕ) → m < late → n + m < most → Waits n m most late (leb m (n / 32 + 16))
+waits-by n m most late h k = record { late-room = λ _. h; room = λ _. k; many = λ e _ _. let l = leb-false m (n / 32 + 16) e in omega arith }
+
+pub waits-not : {n m most late : ℕ} {r : Bool} → Waits n m most late r → r ≡ false → Waits n m most late false
+waits-not {n} {m} {most} {late} w e = subst (Waits n m most late) e w
+
+pub made-merged : (t l d : Cells) (hi : ℕ) → Waits (t .count) (l .count) (length (t .addresses)) (length (l .addresses)) false → d .count ≡ t .count + l .count → Merged t l d → d .count < length (t .addresses) → Makes t l hi d 0 hi
+made-merged t l d hi w e m h = rw (m .is) (merged (λ x. w .many refl x (omega arith)) (omega arith))
 
 pub made-halved : (t l d : Cells) (hi k : ℕ) → k ≡ length (t .addresses) / 2 → Merged t l d → t .count + l .count ≡ length (t .addresses) →
     Makes t l hi (cells k (d .addresses) (d .values)) 0 (getD (d .addresses) k 0)
@@ -251,7 +258,7 @@ pub table-made : {lo hi : ℕ} {done : List Record} {t : Cells} {n : ℕ} {s v :
     Table lo hi done t (cells n s v) → Makes t (cells n s v) hi u m b → lo < hi → 1 < length (t .addresses) → 0 < length s → Roomy lo hi done t s v u m b
 table-made k (left i j) h two one =
     record { table = k; late = i; room = j; same = refl; above = h; below = omega arith; half = λ z. absurd (omega arith); more = λ _. omega arith }
-table-made {lo} {hi} {done} {t} {n} {s} {v} k (merged j) h two one =
+table-made {lo} {hi} {done} {t} {n} {s} {v} k (merged f j) h two one =
     let p = k .cells in
     let e = settled-count p s v (p .late .pair) in
     record {

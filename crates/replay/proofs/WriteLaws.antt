@@ -2,7 +2,7 @@
 -- Assumes nothing.
 use mathlib.Core.Path.{_≡_, refl, sym, ap, subst, _∙_}
 use mathlib.Core.Bool.{Bool, true, false}
-use mathlib.Core.List.{List, [], _∷_, _++_, append-nil}
+use mathlib.Core.List.{List, [], _++_, append-nil}
 use Prim.Native.Nat.{ℕ, zero, suc, _+_, _*_, _≤_, _<_}
 use native.Mathlib.Omega.{arith}
 use borrow.Author.Tests.{ne-eqb, ltb-true, ltb-false}
@@ -11,12 +11,12 @@ use lib.Dec.{eqb, ltb}
 use Rattle.machine.specs.Choice.{cond}
 use Rattle.machine.specs.Words.{p}
 use Rattle.machine.specs.Ram.{Cells, cells, has, held}
-use Rattle.machine.specs.Records.{Record, other, stack, ram}
+use Rattle.machine.specs.Records.{Record, other}
 use Rattle.replay.specs.LastWrite.{wroteOf, hadOf, wroteAll}
 use Rattle.replay.specs.Walk.{Walk}
 use Rattle.replay.specs.Scan.{of-other, of-stack, of-ram, Fines, none, more}
 use Rattle.replay.specs.Merge.{Sorted, lacked, Lacked, Merging, Merged}
-use Rattle.replay.specs.Group.{inside, newIn, cellsIn, distinctIn}
+use Rattle.replay.specs.Group.{inside, cellsIn, distinctIn}
 use Rattle.replay.specs.Table.{seen, Table}
 use Rattle.replay.specs.GroupView.{Gathered}
 use Rattle.replay.specs.WriteView.{Fits, Brings, Fitting, Written, Few}
@@ -26,27 +26,8 @@ use Rattle.replay.proofs.GroupLaws.{apart, inside-true, inside-in, insi
 use Rattle.replay.proofs.CellsLaws.{has-none, same-cells}
 use Rattle.replay.proofs.CountLaws.{had-or, distinct-few, distinct-both}
 use Rattle.replay.proofs.StoresLaws.{Stores, stores}
-use Rattle.replay.proofs.WroteLaws.{Wrote, wrote-all}
+use Rattle.replay.proofs.WroteLaws.{cells-next, Wrote, wrote-all}
 use Rattle.replay.proofs.SweepLaws.{none-cells, table-only, table-had, table-lacked, table-distinct, many}
-
--- ---- a group's new cells by other cells that have the same addresses of it
-
-module _ (lo hi : ℕ) (c d : Cells) (h : (a : ℕ) → inside lo hi a ≡ true → has c a ≡ has d a) where
-  new-same : (done : List Record) (r : Record) → newIn lo hi c done r ≡ newIn lo hi d done r
-  unfolding newIn
-  new-same done (other x s) = refl
-  new-same done (stack x q e v) = refl
-  new-same done (ram x a v zero) = refl
-  new-same done (ram x a v (suc e)) = go (inside lo hi a) refl
-    where
-      go : (y : Bool) → inside lo hi a ≡ y → _≡_ {A = ℕ} (cond y (cond (hadOf done a (has c a)) 0 1) 0) (cond y (cond (hadOf done a (has d a)) 0 1) 0)
-      go true q = rw (h a q)
-      go false q = refl
-
-  cells-same : (done rs : List Record) → cellsIn lo hi c done rs ≡ cellsIn lo hi d done rs
-  unfolding cellsIn
-  cells-same done [] = refl
-  cells-same done (r ∷ rs) = omega (arith, new-same done r, cells-same (done ++ (r ∷ [])) rs)
 
 -- ---- addresses that no record has
 
@@ -104,7 +85,8 @@ module _ {lo hi : ℕ} {c : Cells} {rs : List Record} {d t : Cells} {s v : List 
   same-held a e = b .held-is a ∙ rw (outside a e)
 
   takes : d .count + lacked d t (t .count) ≡ c .count + cellsIn 0 hi c [] rs
-  takes = omega (arith, b .count, table-lacked k d, cells-same lo hi d c same-has [] rs, cells-both 0 lo hi (omega arith) l c [] rs)
+  unfolding hadOf
+  takes = omega (arith, b .count, table-lacked k d, cells-next lo hi d c [] (λ a e. sym (same-has a e)) rs, cells-both 0 lo hi (omega arith) l c [] rs)
 
   pub brought-fits : c .count + cellsIn 0 p c [] rs ≤ length (c .addresses) → hi ≤ p → Fits d t
   brought-fits r h =

@@ -13,7 +13,7 @@ use Rattle.machine.proofs.RamLaws.{stored-count, stored-addresses, stored-value
 use Rattle.replay.specs.LastWrite.{wroteOf, hadOf, wroteAll}
 use Rattle.replay.specs.Merge.{Sorted}
 use Rattle.replay.specs.Scan.{Fine, of-ram, Fines, none, more}
-use Rattle.replay.specs.Group.{newIn, cellsIn}
+use Rattle.replay.specs.Group.{inside, newIn, cellsIn}
 use Rattle.replay.proofs.GroupLaws.{inside-in, cells-append}
 use Rattle.replay.proofs.CountLaws.{wrote-append, had-append}
 use Rattle.replay.proofs.StoresLaws.{stored-behind, stored-sorted}
@@ -28,17 +28,21 @@ all-append c (stack t q d v ∷ rs) ss = all-append c rs ss
 all-append c (ram t a v zero ∷ rs) ss = all-append c rs ss
 all-append c (ram t a v (suc d) ∷ rs) ss = all-append (stored c a v) rs ss
 
--- ---- the cells that records take, counted from the cells k after the records before
+-- ---- the cells that records take of a group, counted from the cells k that have what the records before leave of it
 
-module _ (lo hi : ℕ) (c k : Cells) (before : List Record) (h : (a : ℕ) → has k a ≡ hadOf before a (has c a)) where
+module _ (lo hi : ℕ) (c k : Cells) (before : List Record) (h : (a : ℕ) → inside lo hi a ≡ true → has k a ≡ hadOf before a (has c a)) where
   new-since : (done : List Record) (r : Record) → newIn lo hi c (before ++ done) r ≡ newIn lo hi k done r
   unfolding newIn
   new-since done (other n s) = refl
   new-since done (stack t q d v) = refl
   new-since done (ram t a v zero) = refl
-  new-since done (ram t a v (suc d)) = rw (had-append before done a (has c a), h a)
+  new-since done (ram t a v (suc d)) = go (inside lo hi a) refl
+    where
+      go : (y : Bool) → inside lo hi a ≡ y → _≡_ {A = ℕ} (cond y (cond (hadOf (before ++ done) a (has c a)) 0 1) 0) (cond y (cond (hadOf done a (has k a)) 0 1) 0)
+      go true e = rw (had-append before done a (has c a), h a e)
+      go false e = refl
 
-  pub cells-since : (done rs : List Record) → cellsIn lo hi c (before ++ done) rs ≡ cellsIn lo hi k done rs
+  cells-since : (done rs : List Record) → cellsIn lo hi c (before ++ done) rs ≡ cellsIn lo hi k done rs
   unfolding cellsIn
   cells-since done [] = refl
   cells-since done (r ∷ rs) = rw (new-since done r, append-assoc before done (r ∷ []), cells-since (done ++ (r ∷ [])) rs)
@@ -97,7 +101,7 @@ wrote-one c (ram t a v (suc d)) z (of-ram h _ _) l =
 -- records behind others
 pub wrote-join : {c d e : Cells} {rs ss : List Record} → Wrote c rs d → Wrote d ss e → Wrote c (rs ++ ss) e
 wrote-join {c} {d} {e} {rs} {ss} x y =
-    let n : e .count ≡ c .count + cellsIn 0 p c [] (rs ++ ss) = omega (arith, x .count, y .count, cells-append 0 p c [] rs ss, cells-next 0 p c d rs (x .has-is) ss) in
+    let n : e .count ≡ c .count + cellsIn 0 p c [] (rs ++ ss) = omega (arith, x .count, y .count, cells-append 0 p c [] rs ss, cells-next 0 p c d rs (λ a _. x .has-is a) ss) in
     record {
       has-is = λ a. y .has-is a ∙ rw (x .has-is a) (sym (had-append rs ss a (has c a)));
       held-is = λ a. y .held-is a ∙ rw (x .held-is a) (sym (wrote-append rs ss a (held c a)));
@@ -117,6 +121,6 @@ wrote-all c [] s none l = wrote-nothing c [] s (λ a x. refl) (λ a x. refl) ref
 wrote-all c (r ∷ rs) s (more f fs) l =
     let n = cells-append 0 p c [] (r ∷ []) rs in
     let x = wrote-one c r s f (omega arith) in
-    let m = cells-next 0 p c (wroteAll c (r ∷ [])) (r ∷ []) (x .has-is) rs in
+    let m = cells-next 0 p c (wroteAll c (r ∷ [])) (r ∷ []) (λ a _. x .has-is a) rs in
     let y = wrote-all (wroteAll c (r ∷ [])) rs (x .sorted) fs (omega (arith, x .count, x .addresses)) in
     rw (all-append c (r ∷ []) rs) (wrote-join x y)

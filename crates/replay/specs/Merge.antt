@@ -43,6 +43,7 @@ pub record Lacked (addresses : List ℕ) (count : ℕ) (keys : List ℕ) (n r : 
   pub is : (v w : List ℕ) → r ≡ lacked (cells count addresses v) (cells n keys w) n
   pub few : r ≤ n
 
+-- 1 where an address is lacking
 pub record LacksOne (addresses : List ℕ) (count a r : ℕ) : Type 0 where
   pub is : (v : List ℕ) → r ≡ cond (has (cells count addresses v) a) 0 1
   pub one : r ≤ 1

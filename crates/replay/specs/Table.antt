@@ -38,11 +38,11 @@ pub data Puts (t l : Cells) (a v : ℕ) : Cells → Cells → Type 0 where
   in-table : has t a ≡ true → Puts t l a v (stored t a v) l
   in-late : has t a ≡ false → Puts t l a v t (stored l a v)
 
--- room for one cell more: there is some; or the late cells go into t; or that is full then, and the upper half of its cells is left to
+-- room for one cell more: there is some; or the late cells, more than sixteen or all that have room, go into t; or that is full then, and the upper half of its cells is left to
 -- a later group, which begins with the first of them
 pub data Makes (t l : Cells) (hi : ℕ) : Cells → ℕ → ℕ → Type 0 where
   left : l .count < length (l .addresses) → t .count + l .count < length (t .addresses) → Makes t l hi t (l .count) hi
-  merged : t .count + l .count < length (t .addresses) → Makes t l hi (storedAll t l (l .count)) 0 hi
+  merged : (l .count < length (l .addresses) → 16 < l .count) → t .count + l .count < length (t .addresses) → Makes t l hi (storedAll t l (l .count)) 0 hi
   halved : t .count + l .count ≡ length (t .addresses) →
       Makes t l hi (cells (length (t .addresses) / 2) (storedAll t l (l .count) .addresses) (storedAll t l (l .count) .values)) 0
       (getD (storedAll t l (l .count) .addresses) (length (t .addresses) / 2) 0)

@@ -2,6 +2,7 @@
 // one, where a new cell moves few, and which is merged into the large one. The large one's slices are keys and vals, of which
 // n cells are used; the small one's are lkeys and lvals, of which m are.
 ghost use mathlib.Core.Path.{_≡_};
+ghost use mathlib.Core.Bool.{false as False};
 ghost use Prim.Native.Nat.{_+_, _≤_, _<_};
 ghost use lib.ListN.{length};
 ghost use Rattle.machine.specs.Choice.{cond};
@@ -134,7 +135,7 @@ fn make_more(
     m: usize,
     hi: u64,
 ) -> Made
-    requires { ⌜ Paired (cellsOf n (now keys) (now vals)) (cellsOf m (now lkeys) (now lvals)) × (0 < length (now keys)) ⌝ }
+    requires { ⌜ Paired (cellsOf n (now keys) (now vals)) (cellsOf m (now lkeys) (now lvals)) × (0 < length (now keys)) × Waits n m (length (now keys)) (length (now lkeys)) False ⌝ }
     ensures { λ r. ⌜ Makes (cellsOf n (now (keys .entry)) (now (vals .entry))) (cellsOf m (now (lkeys .entry)) (now (lvals .entry))) hi (cellsOf (r .n) (now (keys .exit)) (now (vals .exit))) (r .m) (r .hi) ⌝ }
 {
     let total = settle(keys, vals, n, lkeys, lvals, m);

@@ -19,7 +19,8 @@ same-length-2 c = search needs
 returns : tie.Need-returns
 returns c =
     let s = c .before .before .before .before .before .settle .ensures in
-    made-merged _ _ _ _ (s .0) (s .1) (omega arith)
+    let r = c .before .before .before .before .before .before .before .before .before .before .before .before .pre in
+    made-merged _ _ _ _ (r .2) (s .0) (s .1) (omega arith)
 
 mul-t14 : tie.Need-mul-t14
 mul-t14 c = search needs

@@ -1,4 +1,5 @@
 -- `replay::table::make_room` meets its contract. Assumes nothing.
+use Rattle.replay.proofs.TableLaws.{waits-not}
 use Prim.Native.Nat.{_-_}
 use borrow.Author.Needs.{needs}
 use Rattle.replay.specs.Table.{left}
@@ -14,7 +15,9 @@ returns c =
     left (w .late-room (c .if1 .taken)) (w .room (c .if1 .taken))
 
 make-more-requires : tie.Need-make-more-requires
-make-more-requires c κs = search needs
+make-more-requires c κs =
+    let r = c .before .before .before .before .before .before .before .before .pre in
+    (r .0, r .1, waits-not (c .before .before .before .waits .ensures) (c .before .before .if1 .left))
 
 same-length : tie.Need-same-length
 same-length c = search needs
