@@ -4,7 +4,7 @@
     pub fn F(regs: &mut T, p1: .., p2: .., ..) -> u64 { let a = CALLEE(*regs, p1, p2, ..); *regs = a.state; a.number }
 
 over a covered CALLEE(s: T, p1, p2, ..) -> S, S { number: u64, state: T } (the fields in this order; the number of any unsigned type). Usage: thin_walk.py CONFIG.json > proofs/F/Proof.antt
-CONFIG: crate, fn, callee, struct, answer; params: a list of [kind, elem], kind shr (`&[E]`) | mut (`&mut [E]`) | arr (`&mut [E; n]`, elem "E;n") | num, elem u8 | u16 | u32 | u64 | usize;
+CONFIG: crate, module, fn, callee, struct, answer; callee_crate and callee_module, where callee, struct and answer stand in another crate; params: a list of [kind, elem], kind shr (`&[E]`) | mut (`&mut [E]`) | arr (`&mut [E; n]`, elem "E;n") | num, elem u8 | u16 | u32 | u64 | usize;
 uses: the `use` lines of the specs; requires: the callee's fact, of h and y1, y2, .. (entry list, or number, of each parameter);
 ensures: the callee's fact, of h, r, y1, .. and z1, .. (the last list of a `mut`): (r ≡ ..) × REST; F ensures (r .number ≡ ..) × (r .state ≡ ..) × REST;
 `requires` left out: there is none. number: the type of the answer's number, where it isn't u64. fn: a method is "T/f".
@@ -65,8 +65,11 @@ p = o.append
 path = (c['module'] + '.' if 'module' in c else '') + fn.replace('/', '.'); fn = fn.split('/')[-1]
 P = f'Rattle.{crate}.proofs'
 mod = c['module'] + '.' if 'module' in c else ''
-TS = c.get('struct_specs', f'Rattle.{crate}.specs.declared.{mod}{T}')
-TP = c.get('struct_proofs', f'{P}.{mod}{T}')
+far = c.get('callee_crate'); cmod = c['callee_module'] + '.' if 'callee_module' in c else mod
+Q = f'Rattle.{far}.proofs' if far else P                  # where the callee's modules stand
+QS = f'Rattle.{far}.specs' if far else f'Rattle.{crate}.specs'
+TS = c.get('struct_specs', f'{QS}.declared.{cmod}{T}')
+TP = c.get('struct_proofs', f'{Q}.{cmod}{T}')
 els = sorted(set(el.values()) | {nt}) + (['Array'] if arr else [])
 mod_fn = (c['module'] + '::' if 'module' in c else '') + fn
 p(f'''-- `{crate}::{mod_fn}` meets its contract: a walk of its MIR (`rt mir {crate}`), by hand. The borrow of the record is opened, the
@@ -116,15 +119,15 @@ use denote.Triple.Table.{{entered, cited}}
 use denote.Triple.Walked.{{says, {'needs, ' if need_ else ''}Stays, stay-ref, {'gave-slice, goes-gave-slice, ' if sls else ''}{'gave-ref, goes-gave-ref, ' if arr else ''}{'stay-dropped, goes-dropped, ' if k > m else ''}walkOf, goes-ref, Walks, ends-at, walked, walk-meets}}{chr(10) + 'use denote.Exit.{yes}' if k > m else ''}''')
 for u in c['uses']: p('use ' + u)
 p(f'''use {TS}.{{{T}}}
-use Rattle.{crate}.specs.declared.{mod}{S}.{{{S}}}
+use {QS}.declared.{cmod}{S}.{{{S}}}
 use {TP} as T
 use {TP}.Laws as T′
-use {P}.{mod}{S} as S
-use {P}.{mod}{S}.Laws as S′
-use {P}.{mod}{callee} as callee
-use {P}.{mod}{callee}.Symbol as callee-def
-use {P}.{mod}{callee}.Symbol.{{name as #callee}}
-use {P}.{mod}{callee}.Met as callee-thm
+use {Q}.{cmod}{S} as S
+use {Q}.{cmod}{S}.Laws as S′
+use {Q}.{cmod}{callee} as callee
+use {Q}.{cmod}{callee}.Symbol as callee-def
+use {Q}.{cmod}{callee}.Symbol.{{name as #callee}}
+use {Q}.{cmod}{callee}.Met as callee-thm
 use {P}.{path}.Key.{{name as #own}}
 use {P}.{path} as f
 use {P}.{path}.Statement as stated
@@ -271,5 +274,5 @@ unfolding code.routine tablesOf
     entered 𝓤 H (tripleOf 𝓤 H (𝓖 .A) f.signature (f.spec 𝓤 H (𝓖 .A) (𝓜 .mem) (𝓡 .run)))
     (tables 𝓤 H 𝓜 𝓡 code.env .C) (tables 𝓤 H 𝓜 𝓡 code.env .Λ) #own code.function (code.unfolded 𝓤 H 𝓜 𝓡)
     (meets 𝓤 H (𝓖 .A) (givenOf 𝓤 H 𝓜 𝓖) (𝓜 .mem) (𝓡 .run) (tablesOf 𝓤 H 𝓜 (tables 𝓤 H 𝓜 𝓡 code.env))
-    (cited 𝓤 H (Called 𝓤 H (𝓖 .A) (𝓜 .mem) (𝓡 .run)) 𝓜 𝓡 code.env #callee callee-def.routine code.calls-{crate}·{dash(mod).replace('.','·')}{dash(callee)} (callee-thm.met 𝓤 H 𝓜 𝓖 𝓡)))''')
+    (cited 𝓤 H (Called 𝓤 H (𝓖 .A) (𝓜 .mem) (𝓡 .run)) 𝓜 𝓡 code.env #callee callee-def.routine code.calls-{dash(far or crate)}·{dash(cmod).replace('.','·')}{dash(callee)} (callee-thm.met 𝓤 H 𝓜 𝓖 𝓡)))''')
 print('\n'.join(o))

@@ -10,7 +10,7 @@
 //
 // code is opcodes, arguments, public, secret, digests, and memory is op_stack, origins, destinations, addresses, values, output: a slice each.
 //
-// registers, 27 words (specs/Registers.antt):
+// registers, 27 words (exports_words, specs/Registers.antt):
 //     0 clock, below 2^32
 //     1 pointer
 //     2 depth
@@ -23,17 +23,17 @@
 //     9 halted, 0 or 1
 //    10 whether the sponge is set, 0 or 1
 //    11 to 26 the sponge's words
-// answer, 7 words (specs/Report.antt):
+// answer, 7 words (exports_words, specs/Report.antt):
 //     0 how the call ended: 0 opened, taken or halted, 1 spent, 2 log full, 3 refused
 //     1 the refusal's number, 0 where the call is not refused
 //     2 to 4 the three words that the refusal carries
 //     5 how many steps succeeded: of step 1 or 0, of open 0
 //     6 how many bytes of records were written
 // digest, 5 words. helpers, 6 words, zeros where the call is refused.
-// rebuilt, 3 words (specs/ReplayCall.antt): the number, the depth and how many cells are used, the last two 0 where the call is refused. log is
+// rebuilt, 3 words (exports_calls, specs/ReplayCall.antt): the number, the depth and how many cells are used, the last two 0 where the call is refused. log is
 // bytes; words is the stack slice, all 0 before the call.
 //
-// triton_step_registers is triton_step with the registers as a struct that is lent, `Registers` in src/thin.rt. A mirror in Rust is `#[repr(C)]`
+// triton_step_registers is triton_step with the registers as a struct that is lent, `Registers` in exports_calls, src/thin.rt. A mirror in Rust is `#[repr(C)]`
 // with the same fields in the same order; it has 208 bytes, and those that are reserved stay as they are:
 //     0 clock, 4 reserved, 4 bytes each
 //     8 pointer, 16 depth, 24 jumps, 32 cells, 40 outputs, 48 publics, 56 secrets, 64 digests, 8 bytes each
@@ -42,13 +42,4 @@
 //
 // Each call gives the number too. One of these slices with another length, a clock at or above 2^32 and a mark other than 0 or 1 give 1: then
 // nothing lent is changed, and an answer of seven words says so; one of another length stays. open does not read the registers, only their length.
-pub mod fits;
-pub mod helper_variables;
-pub mod open;
-pub mod registers;
-pub mod replay_call;
-pub mod report;
-pub mod run;
-pub mod step;
-pub mod thin;
-pub mod trace;
+pub mod calls;

@@ -1,7 +1,7 @@
 -- Document 01's example, by computation. Assumes nothing.
 use mathlib.Core.Path.{_≡_, refl, ap, _∙_}
 use mathlib.Core.List.{[], _∷_}
-use Rattle.machine.specs.Choice.{firstOf, aboveOf, differOf}
+use Rattle.choices.specs.Choice.{firstOf, aboveOf, differOf}
 use Rattle.machine.specs.Bytes.{bytesOf, numberOf}
 use Rattle.machine.specs.Words.{wordOf2, wordsOf, zerosFrom}
 use Rattle.machine.specs.Ram.{placeFrom, placeOf, standsAt, find, held, cells1, cells2, cells5, fallOf, fallsOf}
@@ -16,15 +16,16 @@ use Rattle.machine.specs.Decide.{effectOf, decideOf}
 use Rattle.machine.specs.Apply.{appliedStack, touched, performed, limitsOf, settled}
 use Rattle.machine.specs.PlaceA.{code1, memory1, code2, opcodes3, arguments4, code34, openA}
 use Rattle.machine.specs.Open.{openedStack, opened, openOf}
-use Rattle.machine.specs.Step.{outcomeBy, stepsBy}
+use Rattle.machine.specs.Step.{outcomeBy}
+use Rattle.machine.specs.Path.{pathBy, logFrom}
 use Rattle.machine.specs.Records.{callRecords, growing, shrinking, stackRecords, recordsOf}
-use Rattle.machine.specs.Logged.{logged}
+use Rattle.machine_log.specs.Logged.{logged}
 use Rattle.job.specs.Frame.{kindIn, wholeBy, sizeBy}
 use Rattle.job.specs.JobFile.{Job, lengthIn, fileRecord, pieceKind, pieceSize, pieceIn, piecesIn, piecesOf, countOf, numbersIn, column, faultOf, jobOf}
 use Rattle.job.specs.Example.{digestRecord, exampleFile, exampleText}
 use Rattle.job.specs.Listing.{digitsOf, decimalOf, fieldOf, directionText, stackLine, outLine, countsOf, haltedLine, refusedLine}
 use Rattle.job.specs.LogLines.{lineOf, linesOf}
-use Rattle.job.specs.Printed.{outLines, endLine, recordsBy, runLines, jobLines, printedOf}
+use Rattle.job.specs.Printed.{outLines, endLine, pathLines, runLines, jobLines, printedOf}
 
 exampleJob : Job
 exampleJob =
@@ -46,7 +47,7 @@ unfolding exampleJob exampleFile fileRecord lengthIn pieceKind pieceSize pieceIn
 example-job = refl
 
 example-lines : jobLines exampleJob ≡ exampleText
-unfolding exampleJob exampleText jobLines runLines recordsBy endLine outLines lineOf linesOf digitsOf decimalOf fieldOf directionText stackLine outLine countsOf haltedLine logged callRecords growing shrinking stackRecords recordsOf outcomeBy stepsBy openedStack opened openOf code1 memory1 code2 opcodes3 arguments4 code34 openA appliedStack touched performed limitsOf settled effectOf decideOf addOf fromTop reversed writeIoOf haltOf pushOf topOf table decode sizeOf placeFrom placeOf standsAt find held cells1 cells2 cells5 fallOf fallsOf wordOf2 wordsOf zerosFrom firstOf aboveOf differOf
+unfolding exampleJob exampleText jobLines runLines pathLines endLine outLines lineOf linesOf digitsOf decimalOf fieldOf directionText stackLine outLine countsOf haltedLine logged callRecords growing shrinking stackRecords recordsOf outcomeBy pathBy logFrom openedStack opened openOf code1 memory1 code2 opcodes3 arguments4 code34 openA appliedStack touched performed limitsOf settled effectOf decideOf addOf fromTop reversed writeIoOf haltOf pushOf topOf table decode sizeOf placeFrom placeOf standsAt find held cells1 cells2 cells5 fallOf fallsOf wordOf2 wordsOf zerosFrom firstOf aboveOf differOf
 example-lines = refl
 
 -- document 01's example, from its bytes to what is printed
@@ -63,7 +64,7 @@ twenty-digits = refl
 
 -- a file of a digest alone opens an empty program: "end refused 11 0 0 16"
 pub digest-alone : printedOf digestRecord ≡ 101 ∷ 110 ∷ 100 ∷ 32 ∷ 114 ∷ 101 ∷ 102 ∷ 117 ∷ 115 ∷ 101 ∷ 100 ∷ 32 ∷ 49 ∷ 49 ∷ 32 ∷ 48 ∷ 32 ∷ 48 ∷ 32 ∷ 49 ∷ 54 ∷ 10 ∷ []
-unfolding refusedLine jobLines runLines recordsBy endLine outLines lineOf linesOf digitsOf decimalOf fieldOf directionText stackLine outLine countsOf haltedLine logged callRecords growing shrinking stackRecords recordsOf outcomeBy stepsBy openedStack opened openOf code1 memory1 code2 opcodes3 arguments4 code34 openA appliedStack touched performed limitsOf settled effectOf decideOf addOf fromTop reversed writeIoOf haltOf pushOf topOf table decode sizeOf placeFrom placeOf standsAt find held cells1 cells2 cells5 fallOf fallsOf wordOf2 wordsOf zerosFrom firstOf aboveOf differOf fileRecord lengthIn pieceKind pieceSize pieceIn piecesIn piecesOf countOf numbersIn column faultOf jobOf kindIn wholeBy sizeBy bytesOf numberOf
+unfolding refusedLine jobLines runLines pathLines endLine outLines lineOf linesOf digitsOf decimalOf fieldOf directionText stackLine outLine countsOf haltedLine logged callRecords growing shrinking stackRecords recordsOf outcomeBy pathBy logFrom openedStack opened openOf code1 memory1 code2 opcodes3 arguments4 code34 openA appliedStack touched performed limitsOf settled effectOf decideOf addOf fromTop reversed writeIoOf haltOf pushOf topOf table decode sizeOf placeFrom placeOf standsAt find held cells1 cells2 cells5 fallOf fallsOf wordOf2 wordsOf zerosFrom firstOf aboveOf differOf fileRecord lengthIn pieceKind pieceSize pieceIn piecesIn piecesOf countOf numbersIn column faultOf jobOf kindIn wholeBy sizeBy bytesOf numberOf
 digest-alone = refl
 
 -- an empty file is broken: "end refused 50 0 0 0"

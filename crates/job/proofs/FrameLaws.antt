@@ -9,7 +9,7 @@ use borrow.Author.Tests.{eqb-true, eqb-false, ltb-false, lt-ltb, le-ltb, eq-eqb,
 use lib.ListN.{length, getD, take, drop, length-drop}
 use lib.Dec.{eqb, ltb}
 use lib.Seq.{drop-cons, drop-drop, take-take}
-use Rattle.machine.specs.Choice.{cond}
+use Rattle.choices.specs.Choice.{cond}
 use Rattle.machine.specs.Bytes.{numberOf}
 use Rattle.job.specs.Frame.{sizeBy, kindIn, wholeBy}
 

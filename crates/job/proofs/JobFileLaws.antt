@@ -10,9 +10,9 @@ use borrow.Author.Tests.{eqb-true, eqb-false, eq-eqb, ne-eqb}
 use lib.ListN.{length, take, drop, length-drop, length-append, drop-of-length-le, getD}
 use lib.Seq.{drop-drop, take-at}
 use lib.Dec.{eqb}
-use Rattle.machine.specs.Choice.{cond}
-use Rattle.machine.proofs.Choice.{first-zero, first-nil, above-not, above-nil, differ-not, differ-nil}
-use Rattle.machine.proofs.Logged.{logged-front, logged-none}
+use Rattle.choices.specs.Choice.{cond}
+use Rattle.choices.proofs.Choice.{first-zero, first-nil, above-not, above-nil, differ-not, differ-nil}
+use Rattle.machine_log.proofs.Logged.{logged-front, logged-none}
 use Rattle.machine.specs.Bytes.{numberOf}
 use Rattle.job.specs.Frame.{kindIn, sizeBy}
 use Rattle.job.specs.Listing.{Put}

@@ -8,7 +8,7 @@ use borrow.Author.Tests.{ne-eqb}
 use lib.ListN.{length, drop, length-append}
 use lib.Seq.{take-at, drop-at}
 use lib.Dec.{eqb, ltb}
-use Rattle.machine.specs.Choice.{cond, firstOf, aboveOf, differOf}
+use Rattle.choices.specs.Choice.{cond, firstOf, aboveOf, differOf}
 use Rattle.machine.specs.Bytes.{bytesOf}
 use Rattle.machine.proofs.Bytes.{number-back}
 use Rattle.job.specs.Frame.{kindIn, sizeBy}

@@ -10,8 +10,8 @@ use borrow.Author.Tests.{lt-ltb, le-ltb}
 use lib.ListN.{length, getD, set, take, length-append}
 use lib.Seq.{take-suc, take-length, take-at}
 use lib.Dec.{ltb}
-use Rattle.machine.specs.Choice.{cond}
-use Rattle.machine.proofs.Logged.{logged-front, joined, logged-none, store-one}
+use Rattle.choices.specs.Choice.{cond}
+use Rattle.machine_log.proofs.Logged.{logged-front, joined, logged-none, store-one}
 use Rattle.job.specs.Listing.{digitsOf, decimalOf, outLine, Put}
 use Rattle.job.specs.Printed.{outLines}
 

@@ -8,7 +8,7 @@ use borrow.Author.Tests.{eqb-true, ltb-false, le-ltb, eq-eqb, ne-eqb}
 use lib.ListN.{length, getD, take, drop, length-drop}
 use lib.Seq.{drop-drop, getD-take, getD-drop}
 use lib.Dec.{eqb, ltb}
-use Rattle.machine.specs.Choice.{cond}
+use Rattle.choices.specs.Choice.{cond}
 use Rattle.machine.specs.Bytes.{numberOf}
 use Rattle.machine.specs.Records.{Record, other, stack, ram, lengthOf, recordOf, logBytes, Parsed, ended, broken, found, framed, parse}
 use Rattle.machine.proofs.Records.{Sized, Shorter, at-record, parse-shorter, parse-record, many-bytes}

@@ -4,9 +4,9 @@ use mathlib.Core.List.{List, [], _∷_, _++_}
 use Prim.Native.Nat.{ℕ, zero, suc, _+_, _*_, _<_, _≤_}
 use lib.ListN.{length, getD, take, drop}
 use lib.Dec.{eqb}
-use Rattle.machine.specs.Choice.{cond, firstOf, aboveOf, differOf}
+use Rattle.choices.specs.Choice.{cond, firstIn, aboveOf, differOf}
 use Rattle.machine.specs.Bytes.{bytesOf, numberOf}
-use Rattle.machine.specs.Logged.{logged}
+use Rattle.machine_log.specs.Logged.{logged}
 use Rattle.job.specs.Frame.{kindIn, sizeBy}
 
 -- ---- records
@@ -87,11 +87,14 @@ pub record Job : Type 0 where
 -- 50: more than 65,536 bytes, or 1,024 slots; not one digest, or not first; more than one budget; a record of kind 0
 unfoldable pub faultOf : List ℕ → ℕ
 faultOf b =
-    firstOf (aboveOf (length b) 65536 50)
-    (firstOf (differOf (pieceKind b) 11 50)
-    (firstOf (differOf (countOf 11 (piecesOf b)) 1 50)
-    (firstOf (aboveOf (countOf 12 (piecesOf b)) 1024 50)
-    (firstOf (aboveOf (countOf 17 (piecesOf b)) 1 50) (differOf (countOf 0 (piecesOf b)) 0 50)))))
+    firstIn
+    (aboveOf (length b) 65536 50
+    ∷ differOf (pieceKind b) 11 50
+    ∷ differOf (countOf 11 (piecesOf b)) 1 50
+    ∷ aboveOf (countOf 12 (piecesOf b)) 1024 50
+    ∷ aboveOf (countOf 17 (piecesOf b)) 1 50
+    ∷ differOf (countOf 0 (piecesOf b)) 0 50
+    ∷ [])
 
 -- what an absent record of kind 17 means
 abbrev pub defaultBudget : ℕ

@@ -4,8 +4,8 @@ use mathlib.Core.List.{List, [], _∷_, _++_}
 use Prim.Native.Nat.{ℕ, zero, suc, _+_, _/_, _%_, _≤_}
 use lib.ListN.{length}
 use lib.Dec.{eqb, ltb}
-use Rattle.machine.specs.Choice.{cond}
-use Rattle.machine.specs.Logged.{logged}
+use Rattle.choices.specs.Choice.{cond}
+use Rattle.machine_log.specs.Logged.{logged}
 
 -- ---- numbers in plain decimal
 

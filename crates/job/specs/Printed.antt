@@ -1,16 +1,15 @@
 -- What runjob prints for a file: the stack lines of the steps that succeeded, the output's lines, the end line.
 use mathlib.Core.List.{List, [], _∷_, _++_}
-use Prim.Native.Nat.{ℕ, zero, suc}
+use Prim.Native.Nat.{ℕ}
 use lib.ListN.{length, take, replicate}
 use lib.Dec.{eqb}
-use Rattle.machine.specs.Choice.{cond}
+use Rattle.choices.specs.Choice.{cond}
 use Rattle.machine.specs.Machine.{Code, Memory, Machine, code, memory}
 use Rattle.machine.specs.Decide.{decideOf}
 use Rattle.machine.specs.Apply.{Outcome, took, kept, lost}
-use Rattle.machine.specs.Records.{Record}
-use Rattle.machine.specs.Logged.{logged}
+use Rattle.machine_log.specs.Logged.{logged}
 use Rattle.machine.specs.Open.{openOf}
-use Rattle.machine.specs.Step.{Ending, halted, spent, refused, Ran, recordsIn, outcomeBy, stepsBy}
+use Rattle.machine.specs.Path.{Ending, halted, spent, full, refused, Path, count, unlogged, pathBy, logFrom}
 use Rattle.job.specs.Listing.{outLine, haltedLine, spentLine, refusedLine}
 use Rattle.job.specs.LogLines.{linesOf}
 use Rattle.job.specs.JobFile.{Job, jobOf}
@@ -21,14 +20,12 @@ unfoldable pub outLines : List ℕ → List ℕ
 outLines [] = []
 outLines (w ∷ ws) = outLine w ++ outLines ws
 
--- how a run ended; steps, pointer, depth
+-- how a run ended; steps, pointer, depth. A run is never full
 unfoldable pub endLine : Ending → ℕ → ℕ → ℕ → List ℕ
 endLine halted n q d = haltedLine n q d
 endLine spent n q d = spentLine n q d
+endLine full n q d = []
 endLine (refused r) n q d = refusedLine (r .number) n q d
-
-abbrev pub endOf : Ran → List ℕ
-endOf r = endLine (r .ending) (r .count) (r .left .state .pointer) (r .left .state .depth)
 
 -- where no job was opened the last three are 0
 abbrev pub notOpened : ℕ → List ℕ
@@ -36,22 +33,15 @@ notOpened k = refusedLine k 0 0 0
 
 -- ---- an opened job
 
--- a step's records, and those behind it, where it succeeds
-abbrev pub onTaken : List Record → (Machine → List Record) → Outcome → List Record
-onTaken rs k (took x) = rs ++ k x
-onTaken rs k (kept r) = []
-onTaken rs k (lost r x) = []
-
--- the records of at most n steps
-unfoldable pub recordsBy : ℕ → Machine → List Record
-recordsBy zero m = []
-recordsBy (suc n) m = cond (m .state .halted) [] (onTaken (recordsIn m (decideOf m)) (λ x. recordsBy n x) (outcomeBy decideOf m))
-
 abbrev pub outputOf : Machine → List ℕ
 outputOf m = take (m .state .outputs) (m .memory .output)
 
+-- the lines of a path p from m; n is how many steps the end line says
+unfoldable pub pathLines : ℕ → Machine → Path → List ℕ
+pathLines n m p = linesOf (logFrom decideOf m (p .machines)) ++ (outLines (outputOf (p .left)) ++ endLine (p .ending) n (p .left .state .pointer) (p .left .state .depth))
+
 unfoldable pub runLines : ℕ → Machine → List ℕ
-runLines budget m = linesOf (recordsBy budget m) ++ outLines (outputOf (stepsBy decideOf budget m .left)) ++ endOf (stepsBy decideOf budget m)
+runLines budget m = let p = pathBy decideOf unlogged budget m in pathLines (count p) m p
 
 -- ---- a file
 

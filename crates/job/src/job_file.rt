@@ -3,7 +3,7 @@ ghost use mathlib.Core.Path.{_≡_};
 ghost use Prim.Native.Nat.{_+_, _≤_, _<_};
 ghost use lib.ListN.{length, getD, drop};
 ghost use lib.Dec.{eqb};
-ghost use Rattle.machine.specs.Choice.{cond};
+ghost use Rattle.choices.specs.Choice.{cond};
 ghost use Rattle.job.specs.Frame.{sizeBy};
 ghost use Rattle.job.specs.Listing.{Put};
 ghost use Rattle.job.specs.JobFileView.{lent, Room, brokenFile, Says};
@@ -11,9 +11,9 @@ ghost use Rattle.job.specs.JobFile.{lengthIn, pieceKind, pieceSize, piec
 use crate::frame::kind_at;
 use crate::frame::number_at;
 use crate::frame::whole_at;
-use machine::checks::above;
-use machine::checks::differ;
-use machine::checks::first;
+use choices::numbers::above;
+use choices::numbers::differ;
+use choices::numbers::first;
 
 // What a file without a record of kind 17 may take.
 const DEFAULT_BUDGET: u64 = 16000000;

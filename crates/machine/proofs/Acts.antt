@@ -5,7 +5,7 @@ use Prim.Native.Nat.{ℕ, _<_, _^_}
 use borrow.Author.Tests.{ltb-true}
 use lib.Dec.{ltb}
 use Rattle.tip5.specs.declared.sponge.Sponge.{Sponge}
-use Rattle.machine.specs.Choice.{cond}
+use Rattle.choices.specs.Choice.{cond}
 use Rattle.machine.specs.Refusal.{Refusal}
 use Rattle.machine.specs.Effect.{Effect, Decision, acts, refuses, drops, u32Only, unless}
 use Rattle.machine.specs.Hashing.{spongeOnly}

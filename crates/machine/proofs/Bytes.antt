@@ -10,7 +10,7 @@ use lib.ListN.{length, getD, take}
 use lib.Seq.{take-suc, take-all, length-take-le}
 use lib.Dec.{eqb, ltb, lit<}
 use Rattle.field.specs.Base.{p}
-use Rattle.machine.specs.Choice.{cond}
+use Rattle.choices.specs.Choice.{cond}
 use Rattle.machine.specs.Bytes.{Bytes, none, more, bytesOf, numberOf, belowFrom, isWord}
 
 -- ---- back and forth

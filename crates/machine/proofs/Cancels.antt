@@ -9,7 +9,7 @@ use borrow.Author.Tests.{eq-eqb, le-ltb, ltb-true, ltb-false}
 use lib.ListN.{length, getD, take, drop, replicate, length-append, List·getD-append}
 use lib.Seq.{append-snoc, length-take-le, getD-take, take-take, take-append-le, take-length, paste, length-paste-head, take-paste}
 use lib.Dec.{ltb}
-use Rattle.machine.specs.Choice.{cond}
+use Rattle.choices.specs.Choice.{cond}
 use Rattle.machine.specs.Machine.{Machine}
 use Rattle.machine.specs.Effect.{Effect, acts}
 use Rattle.machine.specs.Decide.{decideOf}

@@ -2,12 +2,13 @@
 -- leaves, as it accepts what a step and a run leave. Assumes nothing.
 use mathlib.Core.Path.{_≡_, refl, subst}
 use mathlib.Core.Bool.{Bool, true, false}
+use mathlib.Core.List.{List}
 use Prim.Native.Nat.{ℕ, _+_, _^_, _≤_, _<_}
 use native.Mathlib.Omega.{arith}
 use borrow.Author.Tests.{eqb-true, ltb-false}
 use lib.ListN.{length}
 use lib.Dec.{eqb, ltb}
-use Rattle.machine.specs.Choice.{cond}
+use Rattle.choices.specs.Choice.{cond}
 use Rattle.machine.specs.Refusal.{Refusal, instructionPointerOverflow, opStackTooShallow}
 use Rattle.machine.specs.Instruction.{Row, table, Decoded, known, unknown, decode, grownBy, shrunkBy}
 use Rattle.machine.specs.Instruction as I
@@ -24,13 +25,15 @@ use Rattle.machine.specs.ManyInOne.{merkleStepOf, merkleStepMemOf, xxDot
 use Rattle.machine.specs.Decide.{opcodeOf, argumentOf, effectOf, decideIn, decideOf}
 use Rattle.machine.specs.Apply.{took, lost, dropped}
 use Rattle.machine.specs.PlaceA.{machineA}
-use Rattle.machine.specs.Step.{outcomeBy, runOf}
+use Rattle.machine.specs.Step.{outcomeBy}
+use Rattle.machine.specs.Run.{runOf, traceExecutionOf}
 use Rattle.machine.specs.Sound.{Sound}
 use Rattle.machine.proofs.Rows.{Each, gathered, each-decode}
 use Rattle.machine.proofs.PlaceA.{machine-sound, machine-accepted}
 use Rattle.machine.proofs.Facts.{facts}
 use Rattle.machine.proofs.Step.{step-sound, step-lost}
-use Rattle.machine.proofs.Run.{lost-sound, run-sound}
+use Rattle.machine.proofs.Path.{lost-sound}
+use Rattle.machine.proofs.Run.{run-sound, trace-sound}
 
 -- P of the refusal where a decision drops
 pub data Drops (P : Refusal → Type 0) : Decision → Type 0 where
@@ -200,3 +203,6 @@ module _ (m : Machine) (sixteen : length (m .state .sponge .words) ≡ 16) (cloc
 
   pub run-accepted : (n : ℕ) → machineA (runOf n m .left) ≡ 0
   run-accepted n = machine-accepted (runOf n m .left) (run-sound decideOf facts (λ m s r e. drops-deep m r e) n m sound)
+
+  pub trace-accepted : (n : ℕ) (b : List ℕ) → machineA (traceExecutionOf n m b .left) ≡ 0
+  trace-accepted n b = machine-accepted (traceExecutionOf n m b .left) (trace-sound decideOf facts (λ m s r e. drops-deep m r e) n m b sound)

@@ -11,7 +11,7 @@ use Rattle.field.specs.Extension.{WordsX}
 use Rattle.field.proofs.Ring.{below}
 use Rattle.field.proofs.ExtensionRing.{addX-words, mulX-words, scaleX-words}
 use Rattle.field.proofs.ExtensionInverse.{inverseX-words}
-use Rattle.machine.specs.Choice.{cond}
+use Rattle.choices.specs.Choice.{cond}
 use Rattle.machine.specs.Words.{Words, none, more}
 use Rattle.machine.specs.Machine.{Machine, st, top}
 use Rattle.machine.specs.Arithmetic.{addOf, addiOf, mulOf, invertOf, eqOf, xst, wordsX, zeroX, xxAddOf, xxMulOf, xInvertOf, xbMulOf}

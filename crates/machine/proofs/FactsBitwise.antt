@@ -10,7 +10,7 @@ use lib.ListN.{length}
 use lib.Dec.{eqb, ltb, lit<}
 use Rattle.field.specs.Base.{p}
 use Rattle.field.proofs.Ring.{below}
-use Rattle.machine.specs.Choice.{cond}
+use Rattle.choices.specs.Choice.{cond}
 use Rattle.machine.specs.Words.{none, more}
 use Rattle.machine.specs.Refusal.{failedU32Conversion}
 use Rattle.machine.specs.Machine.{Machine, st, top, ram}

@@ -6,7 +6,7 @@ use native.Mathlib.Omega.{arith}
 use lib.ListN.{length, getD}
 use lib.Dec.{eqb, ltb}
 use Rattle.field.specs.Base.{p}
-use Rattle.machine.specs.Choice.{cond}
+use Rattle.choices.specs.Choice.{cond}
 use Rattle.machine.specs.Words.{none}
 use Rattle.machine.specs.Instruction.{sizeOf}
 use Rattle.machine.specs.Machine.{Machine, st, top, JumpTop, empty, entry, jumpTop}

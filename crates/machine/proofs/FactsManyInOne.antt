@@ -12,7 +12,7 @@ use Rattle.field.specs.Base.{p}
 use Rattle.field.specs.Extension.{mulX, scaleX}
 use Rattle.field.proofs.Ring.{below}
 use Rattle.field.proofs.ExtensionRing.{addX-words}
-use Rattle.machine.specs.Choice.{cond}
+use Rattle.choices.specs.Choice.{cond}
 use Rattle.machine.specs.Words.{Words, none, more}
 use Rattle.machine.specs.Ram.{held}
 use Rattle.machine.specs.Machine.{Machine, st, top, ram, digestsLeft}

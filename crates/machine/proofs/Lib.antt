@@ -1,17 +1,11 @@
 -- The laws that the proofs cite.
-pub mod Choice
 pub mod Words
 pub mod Moves
 pub mod RamLaws
-pub mod RamView
-pub mod Order
-pub mod Copies
-pub mod MemoryView
 pub mod Touched
 pub mod OpStack
 pub mod Bytes
 pub mod Records
-pub mod Logged
 pub mod Preserved
 pub mod Refused
 pub mod PlaceA
@@ -21,6 +15,7 @@ pub mod Rows
 pub mod Does
 pub mod FactsStack
 pub mod Traces
+pub mod SpongeLaws
 pub mod FactsControl
 pub mod FactsMemory
 pub mod FactsArithmetic
@@ -31,13 +26,8 @@ pub mod Facts
 pub mod StepBytes
 pub mod ProvedTable
 pub mod Step
+pub mod Path
 pub mod Run
 pub mod Drops
 pub mod Whole
 pub mod Cancels
-pub mod Bits
-pub mod Window
-pub mod TableLaws
-pub mod ChecksLaws
-pub mod HashedLaws
-pub mod HelpersLaws

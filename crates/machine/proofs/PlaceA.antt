@@ -17,7 +17,7 @@ use Rattle.machine.specs.Apply.{took, kept}
 use Rattle.machine.specs.PlaceA.{longest, code1, memory1, code2, used2, machine2, code34, unused5, machine5, machineA, openA}
 use Rattle.machine.specs.Open.{openedStack, opened, openOf}
 use Rattle.machine.specs.Sound.{SoundCode, SoundCells, SoundStack, Sound}
-use Rattle.machine.proofs.Choice.{first-zero, first-nil, above-not, above-nil, differ-not, differ-nil}
+use Rattle.choices.proofs.Choice.{first-zero, first-nil, above-not, above-nil, differ-not, differ-nil}
 use Rattle.machine.proofs.Words.{words-getD, words-all, words-zeros, zeros-getD, word-nil, word-fine, words-at, words-nil, words-whole, words-test, words-used, zeros-nil, zeros-fine}
 use Rattle.machine.proofs.Refused.{open-accepts, open-refuses}
 

@@ -14,7 +14,7 @@ use Rattle.machine.specs.Machine.{Machine}
 use Rattle.machine.specs.Effect.{Effect, JumpChange, stays, pushes, pops}
 use Rattle.machine.specs.Apply.{put, depthAfter, jumpsAfter, originsAfter, destinationsAfter, ramAfter, performed, dropped, limitsOf}
 use Rattle.machine.specs.Sound.{SoundStack, Sound, HonestJump, staying, popping, pushing, Facts}
-use Rattle.machine.proofs.Choice.{first-nil, above-nil}
+use Rattle.choices.proofs.Choice.{first-nil, above-nil}
 use Rattle.machine.proofs.Words.{words-set}
 use Rattle.machine.proofs.Touched.{touched-sound}
 use Rattle.machine.proofs.OpStack.{put-length, applied-sound}

@@ -2,7 +2,7 @@
 use mathlib.Core.Path.{_≡_, refl}
 use Rattle.field.specs.Extension.{mulX}
 use Rattle.tip5.specs.SplitAndLookup.{lookupOf}
-use Rattle.machine.specs.Choice.{firstOf, aboveOf, differOf}
+use Rattle.choices.specs.Choice.{firstOf, aboveOf, differOf}
 use Rattle.machine.specs.Words.{wordOf2, wordsOf, zerosFrom}
 use Rattle.machine.specs.Ram.{placeFrom, placeOf, standsAt, find, held, cells1, cells2, cells5, fallOf, fallsOf}
 use Rattle.machine.specs.Instruction.{table, decode, sizeOf}

@@ -9,11 +9,11 @@ use borrow.Author.Tests.{ltb-true, ltb-false, eqb-true, eqb-false, lt-ltb, le-lt
 use lib.ListN.{length, take, getD, set, length-set}
 use lib.Seq.{getD-set-same, getD-set-other, getD-take, length-take-le, take-set-lt}
 use lib.Dec.{eqb, ltb, lit<}
-use Rattle.machine.specs.Choice.{cond, firstOf}
+use Rattle.choices.specs.Choice.{cond, firstOf}
 use Rattle.field.specs.Base.{p}
 use Rattle.machine.specs.Words.{Words}
 use Rattle.machine.specs.Ram.{Cells, cells, at, absent, placeFrom, placeOf, standsAt, find, heldAt, held, hasAt, has, inserted, stored, Alike, cells1, cells2, cells5, fallOf, fallsOf}
-use Rattle.machine.proofs.Choice.{first-zero, first-nil}
+use Rattle.choices.proofs.Choice.{first-zero, first-nil}
 use Rattle.machine.proofs.Words.{words-getD, words-all, words-set, words-alike}
 use Rattle.machine.proofs.Moves.{inserted-length, inserted-before, inserted-here, inserted-up, inserted-all, set-alike, inserted-alike}
 

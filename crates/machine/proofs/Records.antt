@@ -8,7 +8,7 @@ use borrow.Author.Tests.{le-ltb, eq-eqb, ne-eqb}
 use lib.ListN.{length, getD, take, drop, length-append, length-drop}
 use lib.Seq.{take-at, drop-at}
 use lib.Dec.{eqb, ltb}
-use Rattle.machine.specs.Choice.{cond}
+use Rattle.choices.specs.Choice.{cond}
 use Rattle.machine.specs.Bytes.{bytesOf, numberOf}
 use Rattle.machine.specs.Records.{Record, other, stack, ram, lengthOf, recordBytes, logBytes, wordsBytes, growing, shrinking, stackRecords, recordOf, Parsed, ended, broken, found, framed, parse}
 use Rattle.machine.proofs.Bytes.{number-back, bytes-length}

@@ -1,17 +1,25 @@
 -- What place A's number makes of each call: where it is 0 open opens, and elsewhere each call gives that number and changes nothing. Assumes nothing.
-use mathlib.Core.Path.{_≡_}
+use mathlib.Core.Path.{_≡_, refl}
 use mathlib.Core.List.{List}
 use Prim.Native.Nat.{ℕ}
 use borrow.Author.Tests.{ne-eqb}
 use lib.ListN.{replicate}
-use Rattle.machine.specs.Refusal.{plainly}
+use Rattle.machine.specs.declared.refusal.InstructionError.the-variants as E
+use Rattle.machine.specs.Refusal.{plainly, refusalOf}
 use Rattle.machine.specs.Machine.{Code, Memory, Machine}
 use Rattle.machine.specs.Effect.{Decision}
 use Rattle.machine.specs.Apply.{took, kept}
 use Rattle.machine.specs.PlaceA.{openA, machineA, stepA}
 use Rattle.machine.specs.Open.{opened, openOf}
-use Rattle.machine.specs.Step.{stepBy, runBy, ran, refused}
+use Rattle.machine.specs.Step.{stepBy}
+use Rattle.machine.specs.Path.{stays, refused}
+use Rattle.machine.specs.Run.{traceA, runBy, traceBy}
 use Rattle.machine.specs.HelperVariables.{helperVariablesOf}
+
+-- a number that the code hands on as it is
+pub numbered-is : (n : ℕ) → refusalOf (E.Numbered n) ≡ plainly n
+unfolding refusalOf
+numbered-is n = refl
 
 pub open-accepts : (g : List ℕ) (c : Code) (m : Memory) (n : ℕ) → openA g c m n ≡ 0 → openOf g c m n ≡ took (opened g c m n)
 unfolding openOf
@@ -30,6 +38,10 @@ module _ (decide : Machine → Decision) where
   unfolding stepBy
   step-refuses m b h = rw (ne-eqb (stepA m b) 0 h)
 
-  pub run-refuses : (n : ℕ) (m : Machine) → (machineA m ≡ 0 → ⊥) → runBy decide n m ≡ ran 0 (refused (plainly (machineA m))) m
+  pub run-refuses : (n : ℕ) (m : Machine) → (machineA m ≡ 0 → ⊥) → runBy decide n m ≡ stays (refused (plainly (machineA m))) m
   unfolding runBy
   run-refuses n m h = rw (ne-eqb (machineA m) 0 h)
+
+  pub trace-refuses : (n : ℕ) (m : Machine) (b : List ℕ) → (traceA m b ≡ 0 → ⊥) → traceBy decide n m b ≡ stays (refused (plainly (traceA m b))) m
+  unfolding traceBy
+  trace-refuses n m b h = rw (ne-eqb (traceA m b) 0 h)

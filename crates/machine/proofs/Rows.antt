@@ -7,10 +7,10 @@ use native.Mathlib.Omega.{arith}
 use borrow.Author.Tests.{eqb-true, eqb-false, ltb-false}
 use lib.ListN.{getD}
 use lib.Dec.{eqb, ltb}
-use Rattle.machine.specs.Choice.{cond}
+use Rattle.choices.specs.Choice.{cond}
 use Rattle.machine.specs.Instruction.{Row, Argument, nothing, words, place-of-stack, slotsOf, table, Decoded, known, unknown, decodeIn, decode, sizeIn, sizeOf, argumentFault}
 use Rattle.machine.specs.PlaceA.{argument4, arguments4}
-use Rattle.machine.proofs.Choice.{first-nil}
+use Rattle.choices.proofs.Choice.{first-nil}
 
 -- P of each row
 abbrev pub Each : (Row → Type 0) → List Row → Type 0

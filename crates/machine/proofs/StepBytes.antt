@@ -8,7 +8,7 @@ use native.Mathlib.Omega.{arith}
 use borrow.Author.Tests.{leb-true, eqb-true}
 use lib.ListN.{length, length-append}
 use lib.Dec.{leb, eqb}
-use Rattle.machine.specs.Choice.{cond}
+use Rattle.choices.specs.Choice.{cond}
 use Rattle.machine.specs.Ram.{Cells}
 use Rattle.machine.specs.Instruction.{Row, Argument, Change, grows, shrinks, grows-by-argument, shrinks-by-argument, table, known, decodeIn, decode, grownBy, shrunkBy, bytesIn, argumentFault}
 use Rattle.machine.specs.Machine.{Machine}

@@ -6,7 +6,7 @@ use native.Mathlib.Omega.{arith}
 use lib.ListN.{length}
 use lib.Dec.{eqb}
 use Rattle.field.specs.Base.{p}
-use Rattle.machine.specs.Choice.{cond}
+use Rattle.choices.specs.Choice.{cond}
 use Rattle.machine.specs.Ram.{Cells, held, stored, Alike}
 use Rattle.machine.specs.Effect.{Call, reset, tip5, u32, ramRead, ramWrite}
 use Rattle.machine.specs.Apply.{touched}

@@ -9,9 +9,9 @@ use lib.ListN.{length, take, drop, getD, set, replicate}
 use lib.Seq.{take-suc, take-length, getD-take}
 use lib.Dec.{eqb, ltb, lit<}
 use Rattle.field.specs.Base.{p}
-use Rattle.machine.specs.Choice.{cond, firstOf, aboveOf}
+use Rattle.choices.specs.Choice.{cond, firstOf, aboveOf}
 use Rattle.machine.specs.Words.{Words, none, more, wordOf2, wordsOf, zerosFrom}
-use Rattle.machine.proofs.Choice.{first-zero, first-nil, above-not, above-is, above-nil}
+use Rattle.choices.proofs.Choice.{first-zero, first-nil, above-not, above-is, above-nil}
 
 pub words-getD : {s : List ℕ} (i : ℕ) → Words s → getD s i 0 < p
 words-getD i none = lit< tt

@@ -7,7 +7,7 @@ use lib.Seq.{paste}
 use lib.Dec.{eqb}
 use Rattle.tip5.specs.declared.sponge.Sponge.{Sponge}
 use Rattle.machine.specs.declared.state.VMState.{VMState}
-use Rattle.machine.specs.Choice.{cond, firstOf, aboveOf}
+use Rattle.choices.specs.Choice.{cond, firstOf, aboveOf}
 use Rattle.machine.specs.Refusal.{Refusal, plainly}
 use Rattle.machine.specs.Ram.{Cells, cells, stored}
 use Rattle.machine.specs.Instruction.{sizeOf}

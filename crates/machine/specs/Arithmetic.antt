@@ -6,7 +6,7 @@ use lib.Dec.{eqb}
 use Rattle.field.specs.declared.extension.XFieldElement.{XFieldElement}
 use Rattle.field.specs.Base.{addP, mulP, inverseP}
 use Rattle.field.specs.Extension.{xfe, addX, mulX, scaleX, inverseX}
-use Rattle.machine.specs.Choice.{cond}
+use Rattle.choices.specs.Choice.{cond}
 use Rattle.machine.specs.Refusal.{inverseOfZero}
 use Rattle.machine.specs.Machine.{st}
 use Rattle.machine.specs.Effect.{Decision, acts, puts, unless}

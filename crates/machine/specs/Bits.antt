@@ -1,7 +1,7 @@
 -- The binary digits of numbers.
 use Prim.Native.Nat.{ℕ, zero, suc, _+_, _*_, _/_, _%_}
 use lib.Dec.{eqb}
-use Rattle.machine.specs.Choice.{cond}
+use Rattle.choices.specs.Choice.{cond}
 
 -- how many of the n lowest digits are 1
 unfoldable pub onesOf : ℕ → ℕ → ℕ

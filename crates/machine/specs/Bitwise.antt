@@ -3,7 +3,7 @@ use Prim.Native.Nat.{ℕ, _/_, _%_, _^_}
 use mathlib.Core.List.{List, [], _∷_}
 use lib.Dec.{eqb, ltb}
 use Rattle.field.specs.Base.{powP}
-use Rattle.machine.specs.Choice.{cond}
+use Rattle.choices.specs.Choice.{cond}
 use Rattle.machine.specs.Refusal.{divisionByZero, logarithmOfZero}
 use Rattle.machine.specs.Machine.{st}
 use Rattle.machine.specs.Effect.{u32, Decision, acts, recording, u32Only, unless}

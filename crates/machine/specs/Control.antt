@@ -4,7 +4,7 @@ use mathlib.Core.Bool.{true}
 use mathlib.Core.List.{List, []}
 use lib.ListN.{length, getD}
 use lib.Dec.{eqb, ltb}
-use Rattle.machine.specs.Choice.{cond}
+use Rattle.choices.specs.Choice.{cond}
 use Rattle.machine.specs.Refusal.{instructionPointerOverflow, jumpStackIsEmpty, assertionFailed}
 use Rattle.machine.specs.Instruction.{sizeOf}
 use Rattle.machine.specs.Machine.{st, JumpTop, empty, entry}

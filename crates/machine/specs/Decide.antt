@@ -3,7 +3,7 @@ use Prim.Native.Nat.{ℕ, _+_}
 use mathlib.Core.Bool.{Bool}
 use lib.ListN.{length, getD}
 use lib.Dec.{ltb}
-use Rattle.machine.specs.Choice.{cond}
+use Rattle.choices.specs.Choice.{cond}
 use Rattle.machine.specs.Refusal.{plainly, machineHalted, instructionPointerOverflow, opStackTooShallow}
 use Rattle.machine.specs.Instruction.{Instruction, Row, Decoded, known, unknown, decode, grownBy, shrunkBy}
 use Rattle.machine.specs.Instruction as I

@@ -4,7 +4,7 @@ use mathlib.Core.Bool.{Bool, true, false}
 use mathlib.Core.List.{List, []}
 use lib.Dec.{ltb}
 use Rattle.tip5.specs.declared.sponge.Sponge.{Sponge}
-use Rattle.machine.specs.Choice.{cond}
+use Rattle.choices.specs.Choice.{cond}
 use Rattle.machine.specs.Refusal.{Refusal, failedU32Conversion}
 
 -- one of an instruction's own calls

@@ -7,7 +7,7 @@ use lib.Dec.{eqb}
 use Rattle.field.specs.Base.{addP}
 use Rattle.tip5.specs.declared.sponge.Sponge.{Sponge}
 use Rattle.tip5.specs.Permutation.{traceOf}
-use Rattle.machine.specs.Choice.{cond}
+use Rattle.choices.specs.Choice.{cond}
 use Rattle.machine.specs.Refusal.{spongeNotInitialized, vectorAssertionFailed}
 use Rattle.machine.specs.Ram.{Cells}
 use Rattle.machine.specs.Machine.{st}

@@ -4,7 +4,7 @@ use mathlib.Core.List.{List, [], _∷_, _++_}
 use lib.ListN.{length, getD, replicate, take}
 use lib.Dec.{eqb, ltb}
 use Rattle.field.specs.Base.{addP, subP, inverseP}
-use Rattle.machine.specs.Choice.{cond}
+use Rattle.choices.specs.Choice.{cond}
 use Rattle.machine.specs.Refusal.{Refusal, plainly}
 use Rattle.machine.specs.Instruction.{Instruction, Row, Decoded, known, unknown, decode}
 use Rattle.machine.specs.Instruction as I

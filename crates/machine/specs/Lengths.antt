@@ -2,7 +2,7 @@
 use Prim.Native.Nat.{ℕ}
 use mathlib.Core.List.{List}
 use lib.ListN.{length}
-use Rattle.machine.specs.Choice.{aboveOf}
+use Rattle.choices.specs.Choice.{aboveOf}
 
 -- 'No lent slice has more than 16,777,216 elements'
 abbrev pub longest : ℕ
@@ -10,3 +10,7 @@ longest = 16777216
 
 abbrev pub tooLong : List ℕ → ℕ
 tooLong s = aboveOf (length s) longest 1
+
+-- 'One step writes at most 1,024 bytes'
+abbrev pub mostOfStep : ℕ
+mostOfStep = 1024

@@ -4,7 +4,7 @@ use mathlib.Core.List.{List}
 use lib.ListN.{length, getD, take, drop}
 use lib.Dec.{ltb}
 use Rattle.machine.specs.declared.state.VMState.{VMState}
-use Rattle.machine.specs.Choice.{cond}
+use Rattle.choices.specs.Choice.{cond}
 use Rattle.machine.specs.Ram.{Cells, cells}
 
 -- the program, a list of slots (an opcode and an argument each), and the inputs; five words are a secret digest

@@ -7,7 +7,7 @@ use Rattle.field.specs.declared.extension.XFieldElement.{XFieldElement}
 use Rattle.field.specs.Base.{addP}
 use Rattle.field.specs.Extension.{xfe, addX, mulX, scaleX}
 use Rattle.tip5.specs.Permutation.{traceOf}
-use Rattle.machine.specs.Choice.{cond}
+use Rattle.choices.specs.Choice.{cond}
 use Rattle.machine.specs.Refusal.{emptySecretDigestInput}
 use Rattle.machine.specs.Ram.{Cells, held}
 use Rattle.machine.specs.Machine.{st}

@@ -6,7 +6,7 @@ use lib.ListN.{length, getD, replicate}
 use lib.Dec.{eqb}
 use Rattle.tip5.specs.declared.sponge.Sponge.{Sponge}
 use Rattle.machine.specs.declared.state.VMState.{VMState}
-use Rattle.machine.specs.Choice.{cond}
+use Rattle.choices.specs.Choice.{cond}
 use Rattle.machine.specs.Refusal.{plainly}
 use Rattle.machine.specs.Machine.{Code, Memory, Machine, machine}
 use Rattle.machine.specs.Apply.{Outcome, took, kept}

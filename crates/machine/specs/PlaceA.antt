@@ -2,9 +2,9 @@
 use Prim.Native.Nat.{ℕ, zero, suc, _+_, _-_, _*_, _/_, _%_, min}
 use mathlib.Core.List.{List, [], _∷_}
 use lib.ListN.{length, getD}
-use Rattle.machine.specs.Choice.{cond, firstOf, aboveOf, differOf}
+use Rattle.choices.specs.Choice.{firstOf, firstIn, aboveOf, differOf}
 use Rattle.machine.specs.Words.{wordOf2, wordsOf, zerosFrom}
-pub use Rattle.machine.specs.Lengths.{longest, tooLong}
+pub use Rattle.machine.specs.Lengths.{longest, tooLong, mostOfStep}
 use Rattle.machine.specs.Ram.{Cells, cells, cells1, cells2, cells5}
 use Rattle.machine.specs.Instruction.{Decoded, known, unknown, decode, argumentFault}
 use Rattle.machine.specs.Machine.{Code, Memory, Machine, ram}
@@ -13,36 +13,42 @@ use Rattle.machine.specs.Machine.{Code, Memory, Machine, ram}
 
 unfoldable pub code1 : Code → ℕ
 code1 c =
-    firstOf (tooLong (c .opcodes))
-    (firstOf (tooLong (c .arguments))
-    (firstOf (tooLong (c .public))
-    (firstOf (tooLong (c .secret))
-    (firstOf (tooLong (c .digests))
-    (firstOf (differOf (length (c .opcodes)) (length (c .arguments)) 1)
-    (differOf (length (c .digests) % 5) 0 1))))))
+    firstIn
+    (tooLong (c .opcodes)
+    ∷ tooLong (c .arguments)
+    ∷ tooLong (c .public)
+    ∷ tooLong (c .secret)
+    ∷ tooLong (c .digests)
+    ∷ differOf (length (c .opcodes)) (length (c .arguments)) 1
+    ∷ differOf (length (c .digests) % 5) 0 1
+    ∷ [])
 
 unfoldable pub memory1 : Memory → ℕ
 memory1 m =
-    firstOf (tooLong (m .opStack))
-    (firstOf (aboveOf 16 (length (m .opStack)) 1)
-    (firstOf (tooLong (m .origins))
-    (firstOf (tooLong (m .destinations))
-    (firstOf (differOf (length (m .origins)) (length (m .destinations)) 1)
-    (firstOf (cells1 (cells 0 (m .addresses) (m .values)))
-    (tooLong (m .output)))))))
+    firstIn
+    (tooLong (m .opStack)
+    ∷ aboveOf 16 (length (m .opStack)) 1
+    ∷ tooLong (m .origins)
+    ∷ tooLong (m .destinations)
+    ∷ differOf (length (m .origins)) (length (m .destinations)) 1
+    ∷ cells1 (cells 0 (m .addresses) (m .values))
+    ∷ tooLong (m .output)
+    ∷ [])
 
 -- step's call buffer
 unfoldable pub buffer1 : List ℕ → ℕ
-buffer1 b = firstOf (tooLong b) (aboveOf 1024 (length b) 1)
+buffer1 b = firstOf (tooLong b) (aboveOf mostOfStep (length b) 1)
 
 -- ---- 2: words at or above p. A used word is one of the slice whose index is below the count
 
 unfoldable pub code2 : Code → ℕ
 code2 c =
-    firstOf (wordsOf (c .arguments) (length (c .arguments)))
-    (firstOf (wordsOf (c .public) (length (c .public)))
-    (firstOf (wordsOf (c .secret) (length (c .secret)))
-    (wordsOf (c .digests) (length (c .digests)))))
+    firstIn
+    (wordsOf (c .arguments) (length (c .arguments))
+    ∷ wordsOf (c .public) (length (c .public))
+    ∷ wordsOf (c .secret) (length (c .secret))
+    ∷ wordsOf (c .digests) (length (c .digests))
+    ∷ [])
 
 -- the first n of a slice, or all where it has less
 abbrev pub used2 : List ℕ → ℕ → ℕ
@@ -50,13 +56,15 @@ used2 s n = wordsOf s (min n (length s))
 
 unfoldable pub machine2 : Machine → ℕ
 machine2 m =
-    firstOf (code2 (m .code))
-    (firstOf (used2 (m .memory .opStack) (m .state .depth))
-    (firstOf (used2 (m .memory .origins) (m .state .jumps))
-    (firstOf (used2 (m .memory .destinations) (m .state .jumps))
-    (firstOf (cells2 (ram m))
-    (firstOf (wordsOf (m .state .sponge .words) 16)
-    (wordOf2 (m .state .pointer)))))))
+    firstIn
+    (code2 (m .code)
+    ∷ used2 (m .memory .opStack) (m .state .depth)
+    ∷ used2 (m .memory .origins) (m .state .jumps)
+    ∷ used2 (m .memory .destinations) (m .state .jumps)
+    ∷ cells2 (ram m)
+    ∷ wordsOf (m .state .sponge .words) 16
+    ∷ wordOf2 (m .state .pointer)
+    ∷ [])
 
 -- ---- 3 and 4: slots, reached or not
 
@@ -88,23 +96,25 @@ unused5 s n = zerosFrom s n (length s - n)
 
 unfoldable pub machine5 : Machine → ℕ
 machine5 m =
-    firstOf (aboveOf 16 (m .state .depth) 5)
-    (firstOf (aboveOf (m .state .depth) (length (m .memory .opStack)) 5)
-    (firstOf (aboveOf (m .state .jumps) (length (m .memory .origins)) 5)
-    (firstOf (aboveOf (m .state .outputs) (length (m .memory .output)) 5)
-    (firstOf (aboveOf (m .state .publics) (length (m .code .public)) 5)
-    (firstOf (aboveOf (m .state .secrets) (length (m .code .secret)) 5)
-    (firstOf (aboveOf (m .state .digests) (length (m .code .digests) / 5) 5)
-    (firstOf (unused5 (m .memory .opStack) (m .state .depth))
-    (firstOf (unused5 (m .memory .origins) (m .state .jumps))
-    (firstOf (unused5 (m .memory .destinations) (m .state .jumps))
-    (cells5 (ram m)))))))))))
+    firstIn
+    (aboveOf 16 (m .state .depth) 5
+    ∷ aboveOf (m .state .depth) (length (m .memory .opStack)) 5
+    ∷ aboveOf (m .state .jumps) (length (m .memory .origins)) 5
+    ∷ aboveOf (m .state .outputs) (length (m .memory .output)) 5
+    ∷ aboveOf (m .state .publics) (length (m .code .public)) 5
+    ∷ aboveOf (m .state .secrets) (length (m .code .secret)) 5
+    ∷ aboveOf (m .state .digests) (length (m .code .digests) / 5) 5
+    ∷ unused5 (m .memory .opStack) (m .state .depth)
+    ∷ unused5 (m .memory .origins) (m .state .jumps)
+    ∷ unused5 (m .memory .destinations) (m .state .jumps)
+    ∷ cells5 (ram m)
+    ∷ [])
 
 -- ---- the calls; 0 where nothing is wrong
 
 -- run and helper variables
 unfoldable pub machineA : Machine → ℕ
-machineA m = firstOf (firstOf (code1 (m .code)) (memory1 (m .memory))) (firstOf (machine2 m) (firstOf (code34 (m .code)) (machine5 m)))
+machineA m = firstIn (firstOf (code1 (m .code)) (memory1 (m .memory)) ∷ machine2 m ∷ code34 (m .code) ∷ machine5 m ∷ [])
 
 -- step, with its call buffer
 unfoldable pub stepA : Machine → List ℕ → ℕ
@@ -113,7 +123,9 @@ stepA m b = firstOf (buffer1 b) (machineA m)
 -- open: the program digest, the program and inputs, the lent memory and how many of its RAM cells are used
 unfoldable pub openA : List ℕ → Code → Memory → ℕ → ℕ
 openA digest c m n =
-    firstOf (firstOf (code1 c) (memory1 m))
-    (firstOf (firstOf (code2 c) (firstOf (wordsOf digest 5) (cells2 (cells n (m .addresses) (m .values)))))
-    (firstOf (code34 c)
-    (cells5 (cells n (m .addresses) (m .values)))))
+    firstIn
+    (firstOf (code1 c) (memory1 m)
+    ∷ firstIn (code2 c ∷ wordsOf digest 5 ∷ cells2 (cells n (m .addresses) (m .values)) ∷ [])
+    ∷ code34 c
+    ∷ cells5 (cells n (m .addresses) (m .values))
+    ∷ [])

@@ -6,7 +6,7 @@ use mathlib.Core.Bool.{Bool, true, false}
 use mathlib.Core.List.{List}
 use lib.ListN.{length, getD, set}
 use lib.Dec.{eqb, ltb}
-use Rattle.machine.specs.Choice.{cond, firstOf, aboveOf, differOf}
+use Rattle.choices.specs.Choice.{cond, firstOf, aboveOf, differOf}
 use Rattle.machine.specs.Words.{wordsOf}
 use Rattle.machine.specs.Lengths.{tooLong}
 

@@ -3,7 +3,7 @@ use Prim.Native.Nat.{ℕ, zero, suc, _+_, _-_}
 use mathlib.Core.List.{List, [], _∷_, _++_}
 use lib.ListN.{length, getD, take, drop}
 use lib.Dec.{eqb, ltb}
-use Rattle.machine.specs.Choice.{cond}
+use Rattle.choices.specs.Choice.{cond}
 use Rattle.machine.specs.Bytes.{bytesOf, numberOf}
 use Rattle.machine.specs.Machine.{Machine}
 use Rattle.machine.specs.Effect.{Call, reset, tip5, u32, ramRead, ramWrite, Effect}

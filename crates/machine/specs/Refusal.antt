@@ -70,14 +70,8 @@ spongeNotInitialized = plainly 23
 -- ---- the code's names
 
 unfoldable pub refusalOf : InstructionError → Refusal
-refusalOf E.BadShape = plainly 1
-refusalOf E.NotAWord = plainly 2
-refusalOf E.InvalidOpcode = plainly 3
-refusalOf E.IllegalArgument = plainly 4
-refusalOf E.BadState = plainly 5
-refusalOf E.MachineHalted = machineHalted
+refusalOf (E.Numbered n) = plainly n
 refusalOf E.InstructionPointerOverflow = instructionPointerOverflow
-refusalOf E.OpStackTooShallow = opStackTooShallow
 refusalOf (E.FailedU32Conversion w) = failedU32Conversion w
 refusalOf (E.EmptyPublicInput n) = emptyPublicInput n
 refusalOf (E.EmptySecretInput n) = emptySecretInput n
@@ -89,8 +83,3 @@ refusalOf E.InverseOfZero = inverseOfZero
 refusalOf E.DivisionByZero = divisionByZero
 refusalOf E.LogarithmOfZero = logarithmOfZero
 refusalOf E.SpongeNotInitialized = spongeNotInitialized
-refusalOf E.OpStackFull = plainly 30
-refusalOf E.JumpStackFull = plainly 31
-refusalOf E.RamFull = plainly 32
-refusalOf E.OutputFull = plainly 33
-refusalOf E.ClockAtEnd = plainly 34

@@ -4,7 +4,7 @@ use mathlib.Core.List.{List, [], _∷_}
 use lib.ListN.{getD}
 use lib.Dec.{ltb}
 pub use Rattle.field.specs.Base.{p}
-use Rattle.machine.specs.Choice.{cond, firstOf, aboveOf}
+use Rattle.choices.specs.Choice.{cond, firstOf, aboveOf}
 
 -- a list of words: each element is below p
 pub data Words : List ℕ → Type 0 where

@@ -1,16 +1,9 @@
 // Why a call is turned down. The names are the Rust's where it has them; specs/Refusal.antt gives each its number and words.
 pub enum InstructionError {
-    // Place A.
-    BadShape,
-    NotAWord,
-    InvalidOpcode,
-    IllegalArgument,
-    BadState,
-    // Place B.
-    MachineHalted,
-    InstructionPointerOverflow,
-    OpStackTooShallow,
+    // Places A, B and D: by document 01's number, with no words.
+    Numbered(u64),
     // Place C.
+    InstructionPointerOverflow,
     FailedU32Conversion(u64),
     EmptyPublicInput(u64),
     EmptySecretInput(u64),
@@ -22,10 +15,4 @@ pub enum InstructionError {
     DivisionByZero,
     LogarithmOfZero,
     SpongeNotInitialized,
-    // Place D.
-    OpStackFull,
-    JumpStackFull,
-    RamFull,
-    OutputFull,
-    ClockAtEnd,
 }

@@ -1,8 +1,8 @@
 // What a step answers, as document 01's numbers.
-use inner_step::answer::Answer;
 use machine::state::VMState;
-use vm::refusals::Refusal;
-use vm::refusals::numbered;
+use machine_perform::answer::Answer;
+use machine_refusals::refusals::Refusal;
+use machine_refusals::refusals::numbered;
 
 // A number, 0 where the step is taken, and the three words that go with it.
 pub fn answered(answer: Answer) -> Refusal {

@@ -16,10 +16,10 @@ use crate::words::same;
 use crate::words::same_bytes;
 use crate::words::same_six;
 use crate::words::word;
-use inner_step::answer::Answer;
 use libc::STDOUT_FILENO;
 use machine::state::VMState;
-use vm::helper_variables::Helped;
+use machine_open::helper_variables::Helped;
+use machine_perform::answer::Answer;
 
 // A line where something differs. Gives back whether it is the same.
 pub fn told(entry: u64, what: &[u8], same: bool) -> bool {

@@ -10,10 +10,10 @@ use crate::report::helped_right;
 use crate::report::memory_right;
 use crate::report::state_right;
 use crate::words::both;
-use inner_step::answer::Stepped;
 use machine::state::VMState;
-use vm::helper_variables::helper_variables;
-use vm::step::step;
+use machine_open::helper_variables::helper_variables;
+use machine_perform::answer::Stepped;
+use machine_vm::step::step;
 
 fn helpers_right(
     e: Entry,

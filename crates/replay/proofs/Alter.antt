@@ -5,11 +5,11 @@ use mathlib.Core.List.{List, [], _∷_, _++_}
 use Prim.Native.Nat.{ℕ, _+_, _-_, _<_}
 use native.Mathlib.Omega.{arith}
 use lib.ListN.{getD}
-use Rattle.machine.specs.Choice.{cond, firstOf}
+use Rattle.choices.specs.Choice.{cond, firstOf}
 use Rattle.machine.specs.Ram.{held}
 use Rattle.machine.specs.Bytes.{bytesOf, isWord}
 use Rattle.machine.specs.Records.{Record, other, stack, ram}
-use Rattle.machine.proofs.Choice.{first-zero, first-left, first-nil, above-not, differ-is, differ-nil}
+use Rattle.choices.proofs.Choice.{first-zero, first-left, first-nil, above-not, differ-is, differ-nil}
 use Rattle.replay.specs.Replay.{Built, word40, fields40, stackFault, ramFault, stackTurn, ramTurn, wrong, goes, judged, readOf, bad, onward, replayRecords}
 use Rattle.replay.specs.Demand3.{Read, ofStack, ofRam}
 use Rattle.replay.proofs.Verdicts.{Reads, none, more, All, Late, late-stack, late-ram, replay-on, judged-wrong, judged-went}

@@ -11,14 +11,15 @@ use Rattle.machine.specs.Ram.{Cells, Alike}
 use Rattle.machine.specs.Machine.{Machine}
 use Rattle.machine.specs.Machine as M
 use Rattle.machine.specs.Effect.{Effect, Decision, acts}
-use Rattle.machine.specs.Apply.{performed, took}
+use Rattle.machine.specs.Apply.{performed}
 use Rattle.machine.specs.Records.{Record, recordsOf}
-use Rattle.machine.specs.Step.{recordsIn, outcomeBy}
+use Rattle.machine.specs.Step.{recordsIn}
+use Rattle.machine.specs.Path.{logFrom}
 use Rattle.machine.specs.Sound.{Sound, Facts}
 use Rattle.machine.proofs.Preserved.{limits-fit}
 use Rattle.machine.proofs.Step.{Took, step-took, took-sound}
+use Rattle.machine.proofs.Path.{Chain, chain-none, chain-more}
 use Rattle.replay.specs.Replay.{Built, built}
-use Rattle.replay.specs.Job.{logFrom}
 use Rattle.replay.specs.Demand3.{under}
 use Rattle.replay.proofs.Verdicts.{Reads, none, reads-append, All, all-append, all-map, Late, late-other, late-stack, late-ram}
 use Rattle.replay.proofs.Steps.{Comes, Fine, fine-other, fine-stack, fine-ram, step-reads, step-fine}
@@ -77,10 +78,6 @@ split-late : (j l : ℕ) {log : List Record} (x : Machine) (c : Cells) → Alike
 split-late j l {log} x c al h = record { before = []; behind = log; last = l; now = c; alike = al; joined = refl; reads = none; rest = h }
 
 -- ---- steps in a row
-
-pub data Chain (decide : Machine → Decision) : Machine → List Machine → Type 0 where
-  chain-none : {m : Machine} → Chain decide m []
-  chain-more : {m x : Machine} {xs : List Machine} → outcomeBy decide m ≡ took x → Chain decide x xs → Chain decide m (x ∷ xs)
 
 module _ (decide : Machine → Decision) (facts : (m : Machine) → Sound m → (e : Effect) → decide m ≡ acts e → Facts m e) where
   next-clock : (m x : Machine) → Took m (decide m) x → x .state .clock ≡ m .state .clock + 1

@@ -6,7 +6,7 @@ use native.Mathlib.Omega.{arith}
 use borrow.Author.Tests.{eq-eqb}
 use lib.ListN.{length, replicate, length-append, length-replicate}
 use Rattle.machine.specs.Words.{p}
-use Rattle.machine.specs.Choice.{cond}
+use Rattle.choices.specs.Choice.{cond}
 use Rattle.machine.specs.Ram.{Cells, Alike}
 use Rattle.machine.specs.Machine.{Machine}
 use Rattle.machine.specs.Machine as M
@@ -14,7 +14,7 @@ use Rattle.machine.specs.Effect.{Effect, Decision, acts}
 use Rattle.machine.specs.Bytes.{Bytes, bytesOf, numberOf, isWord}
 use Rattle.machine.specs.Records.{Record, recordBytes, logBytes}
 use Rattle.machine.specs.Sound.{Sound, Facts}
-use Rattle.machine.proofs.Choice.{first-zero, above-not}
+use Rattle.choices.proofs.Choice.{first-zero, above-not}
 use Rattle.machine.proofs.Words.{zeros-fine, zeros-getD}
 use Rattle.machine.proofs.RamLaws.{cells1-alike, cells2-alike, cells5-alike}
 use Rattle.machine.proofs.Bytes.{bytes-back, number-small}
@@ -65,7 +65,7 @@ fine-sized t r h (fine-ram {a = q} {v = v} a b c) =
     let y : v < 18446744073709551616 = omega arith in
     sized-ram h x y
 
-since-sized : (k : ℕ) (r : Record) → Since k r → Sized r
+pub since-sized : (k : ℕ) (r : Record) → Since k r → Sized r
 since-sized k r s = fine-sized (s .at) r (s .small) (s .fine)
 
 all-swap : {P : Record → Type 0} (before : List Record) (r x : Record) (after : List Record) → (P r → P x) → All P (before ++ r ∷ after) → All P (before ++ x ∷ after)

@@ -1,115 +1,44 @@
--- What a job's definition has to do with the calls themselves: the machines that it passes within a run are those that shorter runs
--- leave, a step's are those of step, and its log is what step writes, also for a step taken within run. Assumes nothing.
+-- What a job's definition has to do with the calls themselves: a step's path is what step does, and its log is what step writes, also for a step
+-- taken within run; the log of the job is its calls' logs, one behind the other. The path of run and of trace_execution is that of the call, by
+-- definition (run-passes in machine's proofs/Run.antt says which machines a run passes). Assumes nothing.
 use mathlib.Core.Path.{_≡_, refl, sym, ap, _∙_}
 use mathlib.Core.Bool.{Bool, true, false}
-use mathlib.Core.List.{List, [], _∷_, append-nil}
-use Prim.Native.Nat.{ℕ, zero, suc, _≤_, _<_}
-use native.Mathlib.Numerals.{add-one}
+use mathlib.Core.List.{List, [], _∷_, _++_, append-nil}
+use Prim.Native.Nat.{ℕ, zero, suc, _<_}
 use native.Mathlib.Omega.{arith}
 use borrow.Author.Tests.{eq-eqb}
 use lib.ListN.{length, getD, take, drop}
 use lib.Seq.{take-append-seam}
 use lib.Dec.{eqb}
-use Rattle.machine.specs.Choice.{cond}
+use Rattle.choices.specs.Choice.{cond}
 use Rattle.machine.specs.Refusal.{Refusal, plainly}
 use Rattle.machine.specs.Machine.{Machine}
 use Rattle.machine.specs.Effect.{Effect, Decision, acts}
 use Rattle.machine.specs.Apply.{Outcome, took, kept, lost}
-use Rattle.machine.specs.Records.{logBytes}
+use Rattle.machine.specs.Records.{Record, logBytes}
 use Rattle.machine.specs.PlaceA.{buffer1, machineA, stepA}
-use Rattle.machine.specs.Step.{halted, refused, Ran, ran, onStep, Stepped, steppedBy, recordsIn, outcomeBy, stepBy, stepsBy, runBy}
+use Rattle.machine.specs.Step.{Stepped, steppedBy, recordsIn, outcomeBy, stepBy}
+use Rattle.machine.specs.Path.{spent, refused, Path, path, stays, logFrom}
 use Rattle.machine.specs.Sound.{Sound, Facts}
-use Rattle.machine.proofs.Choice.{first-zero}
+use Rattle.choices.proofs.Choice.{first-zero}
 use Rattle.machine.proofs.PlaceA.{machine-accepted}
 use Rattle.machine.proofs.Step.{step-outcome, step-records, step-sound}
-use Rattle.replay.specs.Job.{Ask, step, run, Called, called, onTook, passed, askOf, jobOf, logFrom, machineAt}
-use Rattle.replay.proofs.Chains.{Chain, chain-none, chain-more}
-use Rattle.replay.proofs.Calls.{job-chain}
-
--- a run r and the call c of a job that says the same
-record Agree (r : Ran) (c : Called) : Type 0 where
-  count : r .count ≡ length (c .machines)
-  left : r .left ≡ c .left
-
--- of m and the machines after it the k-th is what the run r leaves, and r has taken k steps
-pub record Kth (k : ℕ) (m : Machine) (ms : List Machine) (r : Ran) : Type 0 where
-  pub left : (d : Machine) → getD (m ∷ ms) k d ≡ r .left
-  pub count : r .count ≡ k
+use Rattle.machine.proofs.Path.{lastOf, Chain, chain-none, chain-more, Row, log-joined}
+use Rattle.replay.specs.Job.{Ask, step, askOf, jobOf, recordsOfJob, machineAt}
+use Rattle.replay.proofs.Calls.{row-ask, job-chain}
 
 module _ (decide : Machine → Decision) where
-  -- ---- run
-
-  agree-step : (m : Machine) (k : Machine → Ran) (l : Machine → Called) (o : Outcome) → ((x : Machine) → Agree (k x) (l x)) → Agree (onStep m k o) (onTook m l o)
-  agree-step m k l (took x) h = record { count = add-one (k x .count) ∙ ap suc (h x .count); left = h x .left }
-  agree-step m k l (kept r) h = record { count = refl; left = refl }
-  agree-step m k l (lost r x) h = record { count = refl; left = refl }
-
-  agree-steps : (n : ℕ) (m : Machine) → Agree (stepsBy decide n m) (passed decide n m)
-  unfolding stepsBy passed
-  agree-steps zero m = record { count = refl; left = refl }
-  agree-steps (suc n) m = go (m .state .halted) (λ x. agree-steps n x)
-    where
-      go : (t : Bool) → ((x : Machine) → Agree (stepsBy decide n x) (passed decide n x)) →
-          Agree (cond t (ran 0 halted m) (onStep m (λ x. stepsBy decide n x) (outcomeBy decide m))) (cond t (called [] m false) (onTook m (λ x. passed decide n x) (outcomeBy decide m)))
-      go true ih = record { count = refl; left = refl }
-      go false ih = agree-step m (λ x. stepsBy decide n x) (λ x. passed decide n x) (outcomeBy decide m) ih
-
-  agree-run : (n : ℕ) (m : Machine) → Agree (runBy decide n m) (askOf decide m (run n))
-  unfolding runBy askOf
-  agree-run n m = go (eqb (machineA m) 0)
-    where
-      go : (t : Bool) → Agree (cond t (stepsBy decide n m) (ran 0 (refused (plainly (machineA m))) m)) (cond t (passed decide n m) (called [] m false))
-      go true = agree-steps n m
-      go false = record { count = refl; left = refl }
-
-  -- run counts the machines that the job passes
-  pub run-count : (n : ℕ) (m : Machine) → runBy decide n m .count ≡ length (askOf decide m (run n) .machines)
-  run-count n m = agree-run n m .count
-
-  -- and leaves what the job's call leaves
-  pub run-left : (n : ℕ) (m : Machine) → runBy decide n m .left ≡ askOf decide m (run n) .left
-  run-left n m = agree-run n m .left
-
-  kth-took : (k : ℕ) (m : Machine) (l : Machine → Called) (o : Outcome) → ((x : Machine) → k ≤ length (l x .machines) → Kth k x (l x .machines) (stepsBy decide k x)) →
-      suc k ≤ length (onTook m l o .machines) → Kth (suc k) m (onTook m l o .machines) (onStep m (λ x. stepsBy decide k x) o)
-  kth-took k m l (took x) ih h = let q = ih x (omega arith) in record { left = q .left; count = add-one (stepsBy decide k x .count) ∙ ap suc (q .count) }
-  kth-took k m l (kept r) ih h = absurd (omega arith)
-  kth-took k m l (lost r x) ih h = absurd (omega arith)
-
-  kth-steps : (n k : ℕ) (m : Machine) → k ≤ length (passed decide n m .machines) → Kth k m (passed decide n m .machines) (stepsBy decide k m)
-  unfolding stepsBy passed
-  kth-steps n zero m h = record { left = λ d. refl; count = refl }
-  kth-steps zero (suc k) m h = absurd (omega arith)
-  kth-steps (suc n) (suc k) m h = go (m .state .halted) (λ x. kth-steps n k x) h
-    where
-      go : (t : Bool) → ((x : Machine) → k ≤ length (passed decide n x .machines) → Kth k x (passed decide n x .machines) (stepsBy decide k x)) →
-          suc k ≤ length (cond t (called [] m false) (onTook m (λ x. passed decide n x) (outcomeBy decide m)) .machines) →
-          Kth (suc k) m (cond t (called [] m false) (onTook m (λ x. passed decide n x) (outcomeBy decide m)) .machines) (cond t (ran 0 halted m) (onStep m (λ x. stepsBy decide k x) (outcomeBy decide m)))
-      go true ih q = absurd (omega arith)
-      go false ih q = kth-took k m (λ x. passed decide n x) (outcomeBy decide m) ih q
-
-  -- the machines that the job passes within a run are what runs of 1, 2, .. steps leave, up to its count; the machine at its start
-  -- is what a run of 0 leaves
-  pub run-passes : (n k : ℕ) (m : Machine) → k ≤ runBy decide n m .count → Kth k m (askOf decide m (run n) .machines) (runBy decide k m)
-  unfolding runBy askOf
-  run-passes n k m h = go (eqb (machineA m) 0) (omega (arith, h, run-count n m))
-    where
-      go : (t : Bool) → k ≤ length (cond t (passed decide n m) (called [] m false) .machines) →
-          Kth k m (cond t (passed decide n m) (called [] m false) .machines) (cond t (stepsBy decide k m) (ran 0 (refused (plainly (machineA m))) m))
-      go true q = kth-steps n k m q
-      go false q = let z : k ≡ 0 = omega arith in record { left = λ d. rw z; count = sym z }
-
   -- ---- step
 
-  pub step-taken : (m : Machine) (b : List ℕ) (x : Machine) → stepBy decide m b .outcome ≡ took x → askOf decide m (step b) ≡ called (x ∷ []) x false
+  pub step-taken : (m : Machine) (b : List ℕ) (x : Machine) → stepBy decide m b .outcome ≡ took x → askOf decide m (step b) ≡ path (x ∷ []) x false spent
   unfolding askOf
   step-taken m b x h = rw h
 
-  pub step-kept : (m : Machine) (b : List ℕ) (r : Refusal) → stepBy decide m b .outcome ≡ kept r → askOf decide m (step b) ≡ called [] m false
+  pub step-kept : (m : Machine) (b : List ℕ) (r : Refusal) → stepBy decide m b .outcome ≡ kept r → askOf decide m (step b) ≡ stays (refused r) m
   unfolding askOf
   step-kept m b r h = rw h
 
-  pub step-dropped : (m : Machine) (b : List ℕ) (r : Refusal) (x : Machine) → stepBy decide m b .outcome ≡ lost r x → askOf decide m (step b) ≡ called [] x true
+  pub step-dropped : (m : Machine) (b : List ℕ) (r : Refusal) (x : Machine) → stepBy decide m b .outcome ≡ lost r x → askOf decide m (step b) ≡ path [] x true (refused r)
   unfolding askOf
   step-dropped m b r x h = rw h
 
@@ -132,6 +61,25 @@ module _ (decide : Machine → Decision) where
       go : (t : Bool) → made t .outcome ≡ took x → take (made t .bytes) (made t .buffer) ≡ logBytes (recordsIn m (decide m))
       go true q = stepped-log b (logBytes (recordsIn m (decide m))) (outcomeBy decide m) x q
       go false q = let z : _≡_ {A = ℕ} 0 1 = cc in absurd (omega arith)
+
+  -- the job's log is the calls' logs, one behind the other: what a call of trace_execution writes, the bytes of logFrom over its path's machines
+  -- by its contract, is that part of the job's log
+  pub job-log : (m : Machine) (a : Ask) (more : List Ask) →
+      recordsOfJob decide m (a ∷ more)
+      ≡ logFrom decide m (askOf decide m a .machines) ++ cond (askOf decide m a .dropped) [] (recordsOfJob decide (askOf decide m a .left) more)
+  unfolding jobOf logFrom
+  job-log m a more = go (askOf decide m a) (row-ask decide m a)
+    where
+      go : (p : Path) → Row decide m p →
+          logFrom decide m (p .machines ++ cond (p .dropped) [] (jobOf decide (p .left) more)) ≡ logFrom decide m (p .machines) ++ cond (p .dropped) [] (logFrom decide (p .left) (jobOf decide (p .left) more))
+      go p h =
+          log-joined decide m (p .machines) (cond (p .dropped) [] (jobOf decide (p .left) more))
+          ∙ ap (λ (u : List Record). logFrom decide m (p .machines) ++ u) (end (p .dropped) refl)
+        where
+          end : (t : Bool) → p .dropped ≡ t →
+              logFrom decide (lastOf m (p .machines)) (cond t [] (jobOf decide (p .left) more)) ≡ cond t [] (logFrom decide (p .left) (jobOf decide (p .left) more))
+          end true e = refl
+          end false e = ap (λ (x : Machine). logFrom decide x (jobOf decide (p .left) more)) (sym (h .left e))
 
   -- ---- a step within run
 

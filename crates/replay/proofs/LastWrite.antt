@@ -7,7 +7,7 @@ use native.Mathlib.Omega.{arith}
 use lib.ListN.{length}
 use Rattle.machine.specs.Ram.{Cells, held, has, stored}
 use Rattle.machine.specs.Records.{Record, other, stack, ram}
-use Rattle.machine.proofs.Choice.{first-nil, above-nil}
+use Rattle.choices.proofs.Choice.{first-nil, above-nil}
 use Rattle.machine.proofs.RamLaws.{stored-addresses, stored-values, held-stored, has-stored}
 use Rattle.replay.specs.Replay.{Built, stackTurn, ramTurn, ramFault, goes, readOf}
 use Rattle.replay.specs.LastWrite.{wroteOf, hadOf, wroteAll}

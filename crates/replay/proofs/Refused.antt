@@ -5,7 +5,7 @@ use mathlib.Core.List.{List}
 use Prim.Native.Nat.{ℕ}
 use lib.ListN.{length}
 use lib.Dec.{eqb}
-use Rattle.machine.specs.Choice.{cond}
+use Rattle.choices.specs.Choice.{cond}
 use Rattle.machine.specs.Ram.{Cells}
 use Rattle.replay.specs.Replay.{Went, bad, fine, built, Replayed, refuses, finished, replayBytes, replayA, replayOf}
 

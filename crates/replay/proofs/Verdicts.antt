@@ -8,10 +8,10 @@ use borrow.Author.Tests.{eq-eqb, ne-eqb, lt-ltb, le-ltb, eqb-true, ltb-true}
 use lib.ListN.{length, getD, set}
 use lib.Dec.{eqb, ltb}
 use Rattle.machine.specs.Words.{p}
-use Rattle.machine.specs.Choice.{cond, firstOf, aboveOf}
+use Rattle.choices.specs.Choice.{cond, firstOf, aboveOf}
 use Rattle.machine.specs.Ram.{held, stored}
 use Rattle.machine.specs.Records.{Record, other, stack, ram}
-use Rattle.machine.proofs.Choice.{first-zero, above-not, differ-not}
+use Rattle.choices.proofs.Choice.{first-zero, above-not, differ-not}
 use Rattle.machine.proofs.Bytes.{is-word-of}
 use Rattle.replay.specs.Replay.{Built, built, word40, fields40, stackFault, ramFault, stackTurn, ramTurn, stops, wrong, goes, judged, readOf, fine, onward, replayRecords}
 

@@ -1,11 +1,12 @@
--- Demand 3 is not empty: its case is met by a job with a refused call, runs and a read of the op stack, and both halves compute on it. Assumes nothing.
+-- Demand 3 is not empty: its case is met by a job with a refused call, runs, calls of trace_execution and a read of the op stack, and both halves
+-- compute on it. Assumes nothing.
 use mathlib.Core.Path.{_≡_, refl, ap, _∙_}
 use mathlib.Core.List.{List, [], _∷_, _++_}
 use Prim.Native.Nat.{ℕ, _≤_, _<_}
 use native.Mathlib.Omega.{arith}
 use lib.ListN.{length, replicate}
 use lib.Dec.{lit≤, lit<}
-use Rattle.machine.specs.Choice.{cond, firstOf, aboveOf, differOf}
+use Rattle.choices.specs.Choice.{cond, firstOf, aboveOf, differOf}
 use Rattle.machine.specs.Bytes.{Bytes, none, more, bytesOf, belowFrom, isWord}
 use Rattle.machine.specs.Words.{wordOf2, wordsOf, zerosFrom}
 use Rattle.machine.specs.Ram.{placeFrom, placeOf, standsAt, find, held, cells1, cells2, cells5, fallOf, fallsOf}
@@ -19,9 +20,11 @@ use Rattle.machine.specs.Apply.{took, appliedStack, touched, performed, limitsO
 use Rattle.machine.specs.PlaceA.{code1, memory1, buffer1, code2, machine2, opcodes3, arguments4, code34, machine5, machineA, stepA, openA}
 use Rattle.machine.specs.Open.{openedStack, opened, openOf}
 use Rattle.machine.specs.Step.{outcomeBy, stepBy}
+use Rattle.machine.specs.Path.{full, stays, stepLog, pathBy, logFrom}
+use Rattle.machine.specs.Run.{traceA, runBy, traceBy}
 use Rattle.machine.specs.Records.{stack, callRecords, growing, shrinking, stackRecords, recordsOf, recordBytes, logBytes}
 use Rattle.machine.proofs.RamLaws.{alike-same}
-use Rattle.replay.specs.Job.{Ask, step, run, passed, askOf, jobOf, logFrom, recordsOfJob, machineAt}
+use Rattle.replay.specs.Job.{Ask, step, run, trace, askOf, jobOf, recordsOfJob, machineAt}
 use Rattle.replay.specs.Demand3.{Rebuilt, ofStack, altered, replayed, Case}
 use Rattle.replay.proofs.Triton.{demand-3-of-triton}
 
@@ -38,21 +41,26 @@ ourDigest = 1 ∷ 2 ∷ 3 ∷ 4 ∷ 5 ∷ []
 unfoldable pub our : Machine
 our = opened ourDigest ourCode ourMemory 1
 
--- a step with no buffer (refused by 1), a run of 0, a run of 1, a run of 9
+-- a step with no buffer (refused by 1), a run of 0, a trace of 9 with no log (full at once), one with a log for one step, a run of 1, a run of 9
 unfoldable pub asks : List Ask
-asks = step [] ∷ run 0 ∷ run 1 ∷ run 9 ∷ []
+asks = step [] ∷ run 0 ∷ trace 9 [] ∷ trace 9 (replicate 1024 0) ∷ run 1 ∷ run 9 ∷ []
 
 our-opens : openOf ourDigest ourCode ourMemory 1 ≡ took our
 unfolding our ourCode ourMemory ourDigest openedStack opened openOf code1 memory1 code2 opcodes3 arguments4 code34 openA table decode placeFrom placeOf standsAt find held cells1 cells2 cells5 fallOf fallsOf wordOf2 wordsOf zerosFrom firstOf aboveOf differOf
 our-opens = refl
 
 pub our-records : recordsOfJob decideOf our asks ≡ stack 0 16 1 5 ∷ stack 1 16 0 5 ∷ []
-unfolding our asks ourCode ourMemory ourDigest logFrom jobOf askOf passed stepBy buffer1 stepA machineA machine2 machine5 outcomeBy callRecords growing shrinking stackRecords recordsOf openedStack opened code1 memory1 code2 opcodes3 arguments4 code34 appliedStack touched performed limitsOf settled effectOf decideOf pushOf popOf haltOf topOf table decode sizeOf placeFrom placeOf standsAt find held cells1 cells2 cells5 fallOf fallsOf wordOf2 wordsOf zerosFrom firstOf aboveOf differOf
+unfolding our asks ourCode ourMemory ourDigest logFrom jobOf askOf pathBy runBy traceA traceBy stepLog logBytes recordBytes bytesOf stepBy buffer1 stepA machineA machine2 machine5 outcomeBy callRecords growing shrinking stackRecords recordsOf openedStack opened code1 memory1 code2 opcodes3 arguments4 code34 appliedStack touched performed limitsOf settled effectOf decideOf pushOf popOf haltOf topOf table decode sizeOf placeFrom placeOf standsAt find held cells1 cells2 cells5 fallOf fallsOf wordOf2 wordsOf zerosFrom firstOf aboveOf differOf
 our-records = refl
 
 pub our-steps : length (jobOf decideOf our asks) ≡ 3
-unfolding our asks ourCode ourMemory ourDigest jobOf askOf passed stepBy buffer1 stepA machineA machine2 machine5 outcomeBy callRecords growing shrinking stackRecords recordsOf openedStack opened code1 memory1 code2 opcodes3 arguments4 code34 appliedStack touched performed limitsOf settled effectOf decideOf pushOf popOf haltOf topOf table decode sizeOf placeFrom placeOf standsAt find held cells1 cells2 cells5 fallOf fallsOf wordOf2 wordsOf zerosFrom firstOf aboveOf differOf
+unfolding our asks ourCode ourMemory ourDigest jobOf askOf pathBy runBy traceA traceBy stepLog logBytes recordBytes bytesOf stepBy buffer1 stepA machineA machine2 machine5 outcomeBy callRecords growing shrinking stackRecords recordsOf openedStack opened code1 memory1 code2 opcodes3 arguments4 code34 appliedStack touched performed limitsOf settled effectOf decideOf pushOf popOf haltOf topOf table decode sizeOf placeFrom placeOf standsAt find held cells1 cells2 cells5 fallOf fallsOf wordOf2 wordsOf zerosFrom firstOf aboveOf differOf
 our-steps = refl
+
+-- the first trace takes no step, the second the job's first one
+pub our-traced : (askOf decideOf our (trace 9 []) ≡ stays full our) × (logFrom decideOf our (askOf decideOf our (trace 9 (replicate 1024 0)) .machines) ≡ stack 0 16 1 5 ∷ [])
+unfolding our ourCode ourMemory ourDigest logFrom askOf pathBy runBy traceA traceBy stepLog logBytes recordBytes bytesOf stepBy buffer1 stepA machineA machine2 machine5 outcomeBy callRecords growing shrinking stackRecords recordsOf openedStack opened code1 memory1 code2 opcodes3 arguments4 code34 appliedStack touched performed limitsOf settled effectOf decideOf pushOf popOf haltOf topOf table decode sizeOf placeFrom placeOf standsAt find held cells1 cells2 cells5 fallOf fallsOf wordOf2 wordsOf zerosFrom firstOf aboveOf differOf
+our-traced = (refl, refl)
 
 our-short : length (logBytes (stack 0 16 1 5 ∷ stack 1 16 0 5 ∷ [])) ≤ 16777216
 unfolding logBytes recordBytes bytesOf

@@ -3,7 +3,7 @@ use Prim.Native.Nat.{ℕ, _-_, _≤_, _<_}
 use mathlib.Core.Path.{_≡_}
 use mathlib.Core.List.{List, [], _∷_, _++_}
 use lib.ListN.{length, take, replicate}
-use Rattle.machine.specs.Choice.{cond}
+use Rattle.choices.specs.Choice.{cond}
 use Rattle.machine.specs.Lengths.{longest}
 use Rattle.machine.specs.Ram.{Cells, cells, Alike}
 use Rattle.machine.specs.Machine.{Machine, Code, Memory}
@@ -44,8 +44,9 @@ abbrev pub replayed : Machine → Cells → List ℕ → ℕ → Replayed
 replayed m c log j = replayOf log c (replicate (length (m .memory .opStack)) 0) j
 
 module _ (decide : Machine → Decision) where
-  -- "every list of step and run calls on a freshly opened job, refused ones included": m is what open left, c the cells lent
-  -- to replay, whose unused ones are free; "a call log of at most 16 MiB"; "every clock j from 0 to k"
+  -- "every list of step and run calls on a freshly opened job, refused ones included": the demand asks for step and run; trace_execution
+  -- is more. m is what open left, c the cells lent to replay, whose unused ones are free; "a call log of at most 16 MiB"; "every clock j
+  -- from 0 to k"
   pub record Case (m : Machine) (c : Cells) (asks : List Ask) (j : ℕ) : Type 0 where
     pub digest : List ℕ
     pub code : Code

@@ -3,7 +3,7 @@ use Prim.Native.Nat.{ℕ, zero, suc, _+_, _-_}
 use mathlib.Core.List.{List, [], _∷_}
 use lib.ListN.{length, getD, set}
 use lib.Dec.{eqb, ltb}
-use Rattle.machine.specs.Choice.{cond, firstOf, aboveOf, differOf}
+use Rattle.choices.specs.Choice.{cond, firstOf, firstIn, aboveOf, differOf}
 use Rattle.machine.specs.Words.{zerosFrom}
 use Rattle.machine.specs.Ram.{Cells, held, stored, cells1, cells2, cells5}
 use Rattle.machine.specs.Bytes.{bytesOf, isWord}
@@ -121,9 +121,7 @@ finished (fine b) s c = gives (b .depth) (b .words) (b .cells)
 
 -- place A; 'the stack slice must be all 0, otherwise 5'
 unfoldable pub replayA : List ℕ → Cells → List ℕ → ℕ
-replayA log c s =
-    firstOf (firstOf (tooLong log) (firstOf (cells1 c) (tooLong s)))
-    (firstOf (cells2 c) (firstOf (cells5 c) (zerosFrom s 0 (length s))))
+replayA log c s = firstIn (firstIn (tooLong log ∷ cells1 c ∷ tooLong s ∷ []) ∷ cells2 c ∷ cells5 c ∷ zerosFrom s 0 (length s) ∷ [])
 
 -- a log, the opening RAM, a stack slice, a clock
 unfoldable pub replayOf : List ℕ → Cells → List ℕ → ℕ → Replayed

@@ -1,9 +1,1 @@
-// Replay: a call log read back, and the theorem that it rebuilds what the machine had.
-pub mod group;
-pub mod merge;
-pub mod place_a;
-pub mod record;
-pub mod replay;
-pub mod scan;
-pub mod table;
-pub mod write;
+// What replay is, and the theorem of demand 3: definitions and laws, without code.

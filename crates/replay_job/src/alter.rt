@@ -3,7 +3,7 @@ ghost use Prim.Native.Nat.{_+_, _≤_};
 ghost use lib.ListN.{length};
 use crate::memory_job::STEPS;
 use crate::print;
-use replay::record::head_at;
+use replay_scan::record::head_at;
 
 // The eight bytes at a place.
 fn get(log: &[u8], at: usize) -> [u8; 8]

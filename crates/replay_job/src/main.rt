@@ -4,9 +4,9 @@ mod alter;
 mod memory_job;
 mod print;
 
-use machine::checks::least;
-use vm::open::open;
-use vm::trace::trace_execution;
+use choices::numbers::least;
+use machine_open::open::open;
+use machine_vm::trace::trace_execution;
 
 // Up to each clock, from before the first step on.
 fn replay_clocks(log: &[u8]) {

@@ -1,6 +1,6 @@
 // Lines for the reader.
 use crate::memory_job;
-use replay::replay::replay;
+use replay_calls::call::replay;
 
 const OUT: i32 = 1;
 

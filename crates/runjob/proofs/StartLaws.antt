@@ -1,41 +1,41 @@
 -- What starting a job gives, by the contracts of reading and opening it. Assumes nothing.
 use mathlib.Core.Path.{_≡_, refl, sym, ap, subst, _∙_}
 use mathlib.Core.Bool.{Bool, true, false}
-use mathlib.Core.List.{List, _++_, append-assoc}
-use Prim.Native.Nat.{ℕ, _+_, _≤_}
+use mathlib.Core.List.{List}
+use Prim.Native.Nat.{ℕ, _+_, _≤_, _<_}
 use native.Mathlib.Nat.{zero-add}
 use native.Mathlib.Omega.{arith}
 use borrow.Author.Tests.{eqb-true, eqb-false, eq-eqb, ne-eqb}
 use lib.ListN.{length, take, drop, replicate, length-append, length-replicate}
 use lib.Seq.{take-at}
 use lib.Dec.{eqb}
-use Rattle.machine.specs.Choice.{cond, firstOf}
+use Rattle.choices.specs.Choice.{cond, firstOf}
 use Rattle.machine.specs.Refusal.{plainly}
 use Rattle.machine.specs.Machine.{Code, Memory, Machine, machine, code, memory}
 use Rattle.machine.specs.Apply.{Outcome, took, kept, lost}
-use Rattle.machine.specs.Logged.{logged}
+use Rattle.machine_log.specs.Logged.{logged}
 use Rattle.machine.specs.PlaceA.{openA}
 use Rattle.machine.specs.Open.{opened, openOf}
 use Rattle.machine.specs.Decide.{decideOf}
-use Rattle.machine.specs.Step.{stepsBy}
+use Rattle.machine.specs.Path.{count, unlogged, pathBy}
 use Rattle.machine.specs.Sound.{Sound}
-use Rattle.machine.proofs.Choice.{first-zero, first-left, first-nil}
-use Rattle.machine.proofs.Logged.{logged-front}
+use Rattle.choices.proofs.Choice.{first-zero, first-left, first-nil}
+use Rattle.machine_log.proofs.Logged.{logged-front}
 use Rattle.machine.proofs.PlaceA.{open-sound}
-use Rattle.inner_step.specs.declared.answer.Answer.{Answer}
-use Rattle.inner_step.specs.declared.answer.Answer.the-variants as A
-use Rattle.inner_step.specs.declared.answer.Moved.{Moved}
-use Rattle.inner_step.specs.AnswerView.{Answered, did, turned, answerIn, answeredBy, leftBy}
-use Rattle.vm.specs.OpenView.{noState, Opens}
+use Rattle.machine_perform.specs.declared.answer.Answer.{Answer}
+use Rattle.machine_perform.specs.declared.answer.Answer.the-variants as A
+use Rattle.machine_perform.specs.declared.answer.Moved.{Moved}
+use Rattle.machine_perform.specs.AnswerView.{Answered, did, turned, answerIn, answeredBy, leftBy}
+use Rattle.machine_open.specs.OpenView.{noState, Opens}
 use Rattle.job.specs.declared.job_file.JobFile.{JobFile}
 use Rattle.job.specs.JobFile.{Job, Filled, jobOf}
 use Rattle.job.specs.JobFileView.{Lent, Says}
-use Rattle.job.specs.LogLines.{linesOf}
-use Rattle.job.specs.Printed.{outLines, endLine, outputOf, recordsBy, runLines, notOpened, codeOf, memoryOf, onOpened, jobLines}
+use Rattle.job.specs.Printed.{pathLines, runLines, notOpened, codeOf, memoryOf, onOpened, jobLines}
 use Rattle.runjob.specs.Refusals.{numberIn}
-use Rattle.runjob.specs.Pieces.{endingFrom, linesFrom}
+use Rattle.runjob.specs.Pieces.{linesFrom, leftLines}
 use Rattle.runjob.specs.PieceView.{Room}
-use Rattle.runjob.specs.StartView.{Blank, Starts}
+use Rattle.runjob.specs.StartView.{Blank, pendingOf, Starts}
+use Rattle.runjob.proofs.PieceLaws.{left-run, left-refused}
 
 -- ---- the file's words
 
@@ -47,22 +47,19 @@ filled-inside {b} {b2} {words} {n} f =
 filled-take : {b b2 words : List ℕ} {n : ℕ} → Filled b b2 words n → take n b2 ≡ words
 filled-take {b} {b2} {words} {n} f = ap (take n) (f .is ∙ logged-front b words) ∙ take-at words _ n (sym (f .count))
 
-pub zeros : {s : List ℕ} → s ≡ replicate 4096 0 → length s ≡ 4096
-zeros e = ap length e ∙ length-replicate {A = ℕ} 4096 0
-
 -- ---- what main lends
 
-zeros-long : (n : ℕ) {s : List ℕ} → s ≡ replicate n 0 → length s ≡ n
-zeros-long n e = ap length e ∙ length-replicate {A = ℕ} n 0
+pub zeros : (n : ℕ) {s : List ℕ} → s ≡ replicate n 0 → length s ≡ n
+zeros n e = ap length e ∙ length-replicate {A = ℕ} n 0
 
-pub blank : {l : Lent} {m : Memory} → l .opcodes ≡ replicate 1024 0 → l .arguments ≡ replicate 1024 0 → l .public ≡ replicate 5461 0 → l .secret ≡ replicate 5461 0 → l .digests ≡ replicate 7445 0 →
-    m .opStack ≡ replicate 4096 0 → m .origins ≡ replicate 1024 0 → m .destinations ≡ replicate 1024 0 → m .addresses ≡ replicate 4096 0 → m .values ≡ replicate 4096 0 → m .output ≡ replicate 4096 0 → Blank l m
+pub blank : {c : Code} {m : Memory} → c .opcodes ≡ replicate 1024 0 → c .arguments ≡ replicate 1024 0 → c .public ≡ replicate 5461 0 → c .secret ≡ replicate 5461 0 → c .digests ≡ replicate 7445 0 →
+    m .opStack ≡ replicate 4096 0 → m .origins ≡ replicate 1024 0 → m .destinations ≡ replicate 1024 0 → m .addresses ≡ replicate 4096 0 → m .values ≡ replicate 4096 0 → m .output ≡ replicate 4096 0 → Blank c m
 blank o a u s d x i e r v w = record {
-  opcodes = omega (arith, zeros-long 1024 o);
-  arguments = omega (arith, zeros-long 1024 a);
-  public = omega (arith, zeros-long 5461 u);
-  secret = omega (arith, zeros-long 5461 s);
-  digests = omega (arith, zeros-long 7445 d);
+  opcodes = omega (arith, zeros 1024 o);
+  arguments = omega (arith, zeros 1024 a);
+  public = omega (arith, zeros 5461 u);
+  secret = omega (arith, zeros 5461 s);
+  digests = omega (arith, zeros 7445 d);
   opStack = x;
   origins = i;
   destinations = e;
@@ -118,14 +115,9 @@ refused-lines budget (lost r x) h = refl
 -- ---- the job's lines
 
 -- an opened job prints what is to be printed where no step was taken
-pub run-lines : (budget : ℕ) (m : Machine) → runLines budget m ≡ linesFrom 0 budget m
-unfolding runLines linesFrom endingFrom
-run-lines budget m =
-    let r = stepsBy decideOf budget m in
-    let records = linesOf (recordsBy budget m) in
-    let outs = outLines (outputOf (r .left)) in
-    ap (λ (n : ℕ). records ++ outs ++ endLine (r .ending) n (r .left .state .pointer) (r .left .state .depth)) (sym (zero-add (r .count)))
-    ∙ append-assoc records outs (endLine (r .ending) (0 + r .count) (r .left .state .pointer) (r .left .state .depth))
+run-lines : (budget : ℕ) (m : Machine) → runLines budget m ≡ linesFrom 0 budget m
+unfolding runLines linesFrom
+run-lines budget m = let p = pathBy decideOf unlogged budget m in ap (λ (n : ℕ). pathLines n m p) (sym (zero-add (count p)))
 
 good-lines : (j : Job) → j .number ≡ 0 → jobLines j ≡ onOpened (j .budget) (openOf (j .digest) (codeOf j) (memoryOf j) (length (j .addresses)))
 unfolding jobLines
@@ -208,13 +200,29 @@ module _ (file : List ℕ) (j : JobFile) (l l2 : Lent) (s : Says (jobOf file) j 
         both : n ≡ 0 → (jobLines (jobOf file) ≡ runLines (jobOf file .budget) (machine (r .state) Taken m2)) × Sound (machine (r .state) Taken m2)
         both z = let h = first-nil (jobOf file .number) (numberBy (Open (jobOf file))) (sym number-of ∙ z) in is-opened (jobOf file) (machine (r .state) Taken m2) left-is (h .0) (h .1)
 
-        pub starts : length (m2 .output) ≡ 4096 →
-            Starts file l2 (record { number = n; slots = j .slots; publics = j .publics; secrets = j .secrets; digests = j .digests; budget = j .budget; state = r .state }) m2
-        starts len =
+        pub starts : j .budget < 18446744073709551616 → length (m2 .output) ≡ 4096 → Starts file (pendingOf j n (r .state)) (code (l2 .opcodes) (l2 .arguments) (l2 .public) (l2 .secret) (l2 .digests)) m2
+        starts fits len =
             record {
-              inside = record { opcodes = filled-inside (s .opcodes); arguments = filled-inside (s .arguments); public = filled-inside (s .public); secret = filled-inside (s .secret); digests = filled-inside (s .digests) };
-              output = len;
-              sound = λ z. both z .1;
-              opened = λ z. both z .0 ∙ ap (λ (b : ℕ). runLines b (machine (r .state) Taken m2)) (sym (s .budget)) ∙ run-lines (j .budget) (machine (r .state) Taken m2);
-              refused = λ h. not-opened (jobOf file) n number-of h;
+              is = go (eqb n 0) refl;
+              ready =
+                  record {
+                    opcodes = filled-inside (s .opcodes);
+                    arguments = filled-inside (s .arguments);
+                    public = filled-inside (s .public);
+                    secret = filled-inside (s .secret);
+                    digests = filled-inside (s .digests);
+                    sound = λ z. both z .1;
+                    output = omega (arith, len);
+                    steps = omega (arith, fits);
+                  };
             }
+          where
+            whole : Code
+            whole = code (l2 .opcodes) (l2 .arguments) (l2 .public) (l2 .secret) (l2 .digests)
+
+            go : (t : Bool) → eqb n 0 ≡ t → jobLines (jobOf file) ≡ leftLines (pendingOf j n (r .state)) whole m2
+            go true q =
+                let z = eqb-true n 0 q in
+                let x = machine (r .state) Taken m2 in
+                both z .0 ∙ ap (λ (b : ℕ). runLines b x) (sym (s .budget)) ∙ run-lines (j .budget) x ∙ sym (left-run (pendingOf j n (r .state)) whole m2 z)
+            go false q = let z = eqb-false n 0 q in not-opened (jobOf file) n number-of z ∙ sym (left-refused (pendingOf j n (r .state)) whole m2 refl z)

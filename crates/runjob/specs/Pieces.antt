@@ -1,41 +1,76 @@
 -- What runjob prints, piece by piece.
 use mathlib.Core.Bool.{Bool, true, false}
 use mathlib.Core.List.{List, [], _++_}
-use Prim.Native.Nat.{ℕ, _+_}
-use Rattle.machine.specs.Choice.{cond}
-use Rattle.machine.specs.Refusal.{refusalOf}
-use Rattle.machine.specs.Machine.{Machine}
+use Prim.Native.Nat.{ℕ, _+_, _-_}
+use lib.ListN.{take}
+use lib.Dec.{eqb}
+use Rattle.machine.specs.declared.state.VMState.{VMState}
+use Rattle.choices.specs.Choice.{cond}
+use Rattle.machine.specs.Machine.{Code, Memory, Machine, machine, code}
 use Rattle.machine.specs.Decide.{decideOf}
-use Rattle.machine.specs.Step.{Ran, stepsBy}
-use Rattle.vm.specs.declared.answer.TraceEnding.{TraceEnding}
-use Rattle.vm.specs.declared.answer.TraceEnding.the-variants.{Halted, Spent, Full, Refused}
-use Rattle.job.specs.Listing.{haltedLine, spentLine, refusedLine}
-use Rattle.job.specs.LogLines.{linesOf, logLines}
-use Rattle.job.specs.Printed.{outLines, endLine, outputOf, recordsBy}
+use Rattle.machine.specs.Path.{Ending, halted, spent, full, refused, count, unlogged, pathBy}
+use Rattle.machine_steps.specs.declared.answer.Ran.{Ran}
+use Rattle.machine_steps.specs.RanView.{endingIn}
+use Rattle.job.specs.LogLines.{logLines}
+use Rattle.job.specs.Printed.{outLines, endLine, notOpened, pathLines}
+use Rattle.runjob.specs.declared.pending.Pending.{Pending}
 
--- the output's lines and the end line of a run r, before which `done` steps were taken
-unfoldable pub endingFrom : ℕ → Ran → List ℕ
-endingFrom done r = outLines (outputOf (r .left)) ++ endLine (r .ending) (done + r .count) (r .left .state .pointer) (r .left .state .depth)
+-- ---- what is left to print
 
--- what is still to be printed at a machine m, where `done` steps were taken and `budget` are left: job's runLines, where none were taken
+-- at most `budget` steps from x, before which `done` were taken: job's runLines, where none were taken
 unfoldable pub linesFrom : ℕ → ℕ → Machine → List ℕ
-linesFrom done budget m = linesOf (recordsBy budget m) ++ endingFrom done (stepsBy decideOf budget m)
+linesFrom done budget x = let p = pathBy decideOf unlogged budget x in pathLines (done + count p) x p
 
--- ---- the code's answers
+-- a job's program and inputs stand at the start of what is lent
+abbrev pub codeFor : Pending → Code → Code
+codeFor j c = code (take (j .slots) (c .opcodes)) (take (j .slots) (c .arguments)) (take (j .publics) (c .public)) (take (j .secrets) (c .secret)) (take (j .digests) (c .digests))
 
-abbrev pub fullIn : TraceEnding → Bool
-fullIn Halted = false
-fullIn Spent = false
-fullIn Full = true
-fullIn (Refused e) = false
+abbrev pub machineFor : Pending → Code → Memory → Machine
+machineFor j c m = machine (j .state) (codeFor j c) m
 
--- how a run ended; steps, pointer, depth. None where the log was full
-abbrev pub lastLine : TraceEnding → ℕ → ℕ → ℕ → List ℕ
-lastLine Halted n q d = haltedLine n q d
-lastLine Spent n q d = spentLine n q d
-lastLine Full n q d = []
-lastLine (Refused e) n q d = refusedLine (refusalOf e .number) n q d
+-- nothing more, or the lines of the steps that are left, or the line of the refusal
+unfoldable pub leftLines : Pending → Code → Memory → List ℕ
+leftLines j c m = cond (j .more) (cond (eqb (j .number) 0) (linesFrom (j .done) (j .budget) (machineFor j c m)) (notOpened (j .number))) []
 
--- a log's stack lines and, where the log was not full, the lines of the output and the last line
-unfoldable pub pieceLines : List ℕ → List ℕ → TraceEnding → ℕ → ℕ → ℕ → List ℕ
-pieceLines log output e n q d = logLines log ++ cond (fullIn e) [] (outLines output ++ lastLine e n q d)
+-- ---- a piece
+
+abbrev pub isFull : Ending → Bool
+isFull halted = false
+isFull spent = false
+isFull full = true
+isFull (refused r) = false
+
+-- a log's stack lines and, where the log was not full, the lines of the output and the end line; n is how many steps that line says
+unfoldable pub pieceLines : List ℕ → List ℕ → Ending → ℕ → VMState → List ℕ
+pieceLines log output e n s = logLines log ++ cond (isFull e) [] (outLines (take (s .outputs) output) ++ endLine e n (s .pointer) (s .depth))
+
+-- the job j after its last lines, and after the lines of the steps in t
+abbrev pub endedWith : Pending → ℕ → Pending
+endedWith j n =
+    record {
+      number = j .number;
+      slots = j .slots;
+      publics = j .publics;
+      secrets = j .secrets;
+      digests = j .digests;
+      done = j .done;
+      budget = j .budget;
+      state = j .state;
+      bytes = n;
+      more = false;
+    }
+
+abbrev pub movedOn : Pending → Ran → ℕ → Pending
+movedOn j t n =
+    record {
+      number = j .number;
+      slots = j .slots;
+      publics = j .publics;
+      secrets = j .secrets;
+      digests = j .digests;
+      done = j .done + t .count;
+      budget = j .budget - t .count;
+      state = t .state;
+      bytes = n;
+      more = isFull (endingIn (t .ending));
+    }

@@ -1,8 +1,8 @@
 -- A refusal's number in what the calls answer.
 use Prim.Native.Nat.{ℕ}
 use Rattle.machine.specs.Refusal.{refusalOf}
-use Rattle.inner_step.specs.declared.answer.Answer.{Answer}
-use Rattle.inner_step.specs.declared.answer.Answer.the-variants.{Took, Refused}
+use Rattle.machine_perform.specs.declared.answer.Answer.{Answer}
+use Rattle.machine_perform.specs.declared.answer.Answer.the-variants.{Took, Refused}
 
 -- 0 where nothing was refused
 abbrev pub numberIn : Answer → ℕ

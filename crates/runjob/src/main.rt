@@ -1,87 +1,26 @@
 // runjob: reads a job file from standard input, runs the job and writes what document 01's printed job says (printedOf, in job's
 // specs/Printed.antt). Reading and writing have no contract that says which bytes: what is written is what `start` and `piece` say, in
 // their order, and that is printedOf's text (proofs/Printing.antt).
-mod piece;
+mod pending;
 mod refusals;
-mod start;
 
 ghost use mathlib.Core.Path.{_≡_};
+ghost use Prim.Native.Nat.{_≤_};
 ghost use lib.ListN.{length};
-ghost use Rattle.machine.specs.Machine.{machine, code, memory};
-ghost use Rattle.job.specs.JobFileView.{lent};
-ghost use Rattle.runjob.specs.PieceView.{Ready, Room};
+ghost use Rattle.machine.specs.Lent.{codeAt, memoryAt};
+ghost use Rattle.runjob.specs.PieceView.{Room};
 ghost use Rattle.runjob.specs.StartView.{Blank};
-use job::listing::refused_line;
-use machine::state::VMState;
-use piece::piece;
-use start::start;
+use pending::piece::piece;
+use pending::start::start;
 
 const IN: i32 = 0;
 
 const OUT: i32 = 1;
 
-// Piece after piece, until the run has ended.
-fn print_run(
-    budget: u64,
-    opened: VMState,
-    opcodes: &[u64],
-    arguments: &[u64],
-    public: &[u64],
-    secret: &[u64],
-    digests: &[u64],
-    op_stack: &mut [u64],
-    origins: &mut [u64],
-    destinations: &mut [u64],
-    addresses: &mut [u64],
-    values: &mut [u64],
-    output: &mut [u64],
-    log: &mut [u8],
-    text: &mut [u8],
-)
-    requires { ⌜ Ready 0 budget (machine opened (code (now opcodes) (now arguments) (now public) (now secret) (now digests))
-        (memory (now «op_stack») (now origins) (now destinations) (now addresses) (now values) (now output))) (now log) (now text) ⌝ }
-{
-    let mut state = opened;
-    let mut done: u64 = 0;
-    loop {
-        let r = piece(
-            done,
-            budget - done,
-            state,
-            opcodes,
-            arguments,
-            public,
-            secret,
-            digests,
-            op_stack,
-            origins,
-            destinations,
-            addresses,
-            values,
-            output,
-            log,
-            text,
-        );
-        let bytes = r.bytes;
-        io::write_all(OUT, &text[..bytes]);
-        let more = r.more;
-        if !more {
-            break;
-        }
-        done += r.count;
-        state = r.state;
-    }
-}
-
-// The end line of a file that is broken or was not opened.
-fn print_refusal(number: u64) {
-    let mut text = [0u8; 96];
-    let bytes = refused_line(&mut text, 0, number, 0, 0, 0);
-    io::write_all(OUT, &text[..bytes]);
-}
-
+// Piece after piece, until no more are to come.
 fn print_job(
-    file: &[u8],
+    file: &[u8; 65537],
+    n: usize,
     opcodes: &mut [u64],
     arguments: &mut [u64],
     public: &mut [u64],
@@ -96,12 +35,12 @@ fn print_job(
     log: &mut [u8],
     text: &mut [u8],
 )
-    requires { ⌜ Blank (lent (now opcodes) (now arguments) (now public) (now secret) (now digests) (now addresses) (now values))
-        (memory (now «op_stack») (now origins) (now destinations) (now addresses) (now values) (now output)) ⌝ }
-    requires { ⌜ Room (now log) (now text) ⌝ }
+    requires { ⌜ (n ≤ 65537) × Room (now log) (now text) ⌝ }
+    requires { ⌜ Blank (codeAt opcodes arguments public secret digests) (memoryAt «op_stack» origins destinations addresses values output) ⌝ }
 {
-    let s = start(
+    let mut job = start(
         file,
+        n,
         opcodes,
         arguments,
         public,
@@ -114,32 +53,26 @@ fn print_job(
         values,
         output,
     );
-    if s.number != 0 {
-        print_refusal(s.number);
-        return;
+    while job.more {
+        job = piece(
+            job,
+            opcodes,
+            arguments,
+            public,
+            secret,
+            digests,
+            op_stack,
+            origins,
+            destinations,
+            addresses,
+            values,
+            output,
+            log,
+            text,
+        );
+        let bytes = job.bytes;
+        io::write_all(OUT, &text[..bytes]);
     }
-    let slots = s.slots;
-    let publics = s.publics;
-    let secrets = s.secrets;
-    let words = s.digests;
-    let state = s.state;
-    print_run(
-        s.budget,
-        state,
-        &opcodes[..slots],
-        &arguments[..slots],
-        &public[..publics],
-        &secret[..secrets],
-        &digests[..words],
-        op_stack,
-        origins,
-        destinations,
-        addresses,
-        values,
-        output,
-        log,
-        text,
-    );
 }
 
 // Bytes of the log, and three times as many and 102,496 more for the text, as Room asks. Their contracts give the length and spare the
@@ -156,7 +89,6 @@ fn text_space() -> [u8; 1675360]
     [0; 1675360]
 }
 
-// One byte more than a file may have is read, so that a longer one is seen.
 fn main() {
     let mut input = [0u8; 65537];
     let mut opcodes = [0u64; 1024];
@@ -174,7 +106,8 @@ fn main() {
     let mut text = text_space();
     let n = io::read_full(IN, &mut input);
     print_job(
-        &input[..n],
+        &input,
+        n,
         &mut opcodes,
         &mut arguments,
         &mut public,

@@ -2,9 +2,9 @@
 ghost use mathlib.Core.Path.{_≡_};
 ghost use Rattle.machine.specs.Refusal.{refusalOf};
 ghost use Rattle.runjob.specs.Refusals.{numberIn};
-use inner_step::answer::Answer;
 use machine::refusal::InstructionError;
-use vm::refusals::numbered;
+use machine_perform::answer::Answer;
+use machine_refusals::refusals::numbered;
 
 pub fn number(error: InstructionError) -> u64
     ensures { λ r. ⌜ r ≡ refusalOf error .number ⌝ }

@@ -149,7 +149,7 @@ type MutWords = *mut u64;
 #[rustfmt::skip]
 #[link(name = "exports", kind = "static")]
 extern "C" {
-    // exports/src/open.rt: triton_open(registers, answer, digest, cells, code, memory)
+    // exports/src/calls.rt: triton_open(registers, answer, digest, cells, code, memory)
     fn triton_open(
         registers: MutWords, _: usize, answer: MutWords, _: usize, digest: Words, _: usize, cells: u64,
         opcodes: Words, _: usize, arguments: Words, _: usize, public: Words, _: usize, secret: Words, _: usize, digests: Words, _: usize,
@@ -157,7 +157,7 @@ extern "C" {
         addresses: MutWords, _: usize, values: MutWords, _: usize, output: MutWords, _: usize,
     ) -> u64;
 
-    // exports/src/step.rt: triton_step(registers, answer, code, memory, calls)
+    // exports/src/calls.rt: triton_step(registers, answer, code, memory, calls)
     fn triton_step(
         registers: MutWords, _: usize, answer: MutWords, _: usize,
         opcodes: Words, _: usize, arguments: Words, _: usize, public: Words, _: usize, secret: Words, _: usize, digests: Words, _: usize,
@@ -166,7 +166,7 @@ extern "C" {
         calls: *mut u8, _: usize,
     ) -> u64;
 
-    // exports/src/thin.rt: triton_step_registers(registers, answer, code, memory, calls)
+    // exports/src/calls.rt: triton_step_registers(registers, answer, code, memory, calls)
     fn triton_step_registers(
         registers: *mut Registers, answer: MutWords, _: usize,
         opcodes: Words, _: usize, arguments: Words, _: usize, public: Words, _: usize, secret: Words, _: usize, digests: Words, _: usize,
@@ -175,7 +175,7 @@ extern "C" {
         calls: *mut u8, _: usize,
     ) -> u64;
 
-    // exports/src/run.rt: triton_run(registers, answer, budget, code, memory)
+    // exports/src/calls.rt: triton_run(registers, answer, budget, code, memory)
     fn triton_run(
         registers: MutWords, _: usize, answer: MutWords, _: usize, budget: u64,
         opcodes: Words, _: usize, arguments: Words, _: usize, public: Words, _: usize, secret: Words, _: usize, digests: Words, _: usize,
@@ -183,7 +183,7 @@ extern "C" {
         addresses: MutWords, _: usize, values: MutWords, _: usize, output: MutWords, _: usize,
     ) -> u64;
 
-    // exports/src/trace.rt: triton_trace_execution(registers, answer, budget, code, memory, calls)
+    // exports/src/calls.rt: triton_trace_execution(registers, answer, budget, code, memory, calls)
     fn triton_trace_execution(
         registers: MutWords, _: usize, answer: MutWords, _: usize, budget: u64,
         opcodes: Words, _: usize, arguments: Words, _: usize, public: Words, _: usize, secret: Words, _: usize, digests: Words, _: usize,
@@ -192,7 +192,7 @@ extern "C" {
         calls: *mut u8, _: usize,
     ) -> u64;
 
-    // exports/src/helper_variables.rt: triton_helper_variables(registers, helpers, code, memory); all but the helpers are only read
+    // exports/src/calls.rt: triton_helper_variables(registers, helpers, code, memory); all but the helpers are only read
     fn triton_helper_variables(
         registers: Words, _: usize, helpers: MutWords, _: usize,
         opcodes: Words, _: usize, arguments: Words, _: usize, public: Words, _: usize, secret: Words, _: usize, digests: Words, _: usize,
@@ -200,7 +200,7 @@ extern "C" {
         addresses: Words, _: usize, values: Words, _: usize, output: Words, _: usize,
     ) -> u64;
 
-    // exports/src/replay_call.rt: triton_replay(answer, log, clock, cells, addresses, values, words)
+    // exports/src/calls.rt: triton_replay(answer, log, clock, cells, addresses, values, words)
     fn triton_replay(
         answer: MutWords, _: usize, log: *const u8, _: usize, clock: u64, cells: u64,
         addresses: MutWords, _: usize, values: MutWords, _: usize, words: MutWords, _: usize,

@@ -3,7 +3,7 @@ use crate::exports::register;
 use std::mem::{align_of, offset_of, size_of};
 
 /// The registers as the record that [`step_registers`](crate::exports::step_registers) is lent: what the words of a register slice
-/// say, under names, as C lays it out (208 bytes without a gap; `Registers` of the crate `exports`, `src/thin.rt`).
+/// say, under names, as C lays it out (208 bytes without a gap; `Registers` of the crate `exports_calls`, `src/thin.rt`).
 #[repr(C)]
 #[derive(Clone, Copy, Debug, PartialEq, Eq)]
 pub struct Registers {

@@ -1,6 +1,7 @@
 -- `runjob::main` meets its contract. Assumes nothing.
-use mathlib.Core.Path.{refl}
 use Rattle.runjob.proofs.StartLaws.{blank, room}
+use native.Mathlib.Omega.{arith}
+use mathlib.Core.Path.{refl}
 use borrow.Author.Needs.{needs}
 use Rattle.runjob.proofs.main.Statement.{statement}
 use Rattle.runjob.proofs.main.Tie as tie
@@ -16,9 +17,6 @@ slice-aggregate-read-full c = search needs
 
 read-full-requires : tie.Need-read-full-requires
 read-full-requires c κs = search needs
-
-array-share-prefix-input : tie.Need-array-share-prefix-input
-array-share-prefix-input c = search needs
 
 slice-aggregate-print-job : tie.Need-slice-aggregate-print-job
 slice-aggregate-print-job c = search needs
@@ -59,11 +57,8 @@ slice-aggregate-print-job-12 c = search needs
 slice-aggregate-print-job-13 : tie.Need-slice-aggregate-print-job-13
 slice-aggregate-print-job-13 c = search needs
 
-slice-aggregate-print-job-14 : tie.Need-slice-aggregate-print-job-14
-slice-aggregate-print-job-14 c = search needs
-
 print-job-requires : tie.Need-print-job-requires
-print-job-requires c κs = (blank refl refl refl refl refl refl refl refl refl refl refl, room (c .before .before .before .before .before .before .before .before .before .before .before .before .before .before .before .before .before .before .log-space .result) (c .before .before .before .before .before .before .before .before .before .before .before .before .before .before .before .before .before .text-space .result) (c .before .before .before .before .before .before .before .before .before .before .before .before .before .before .before .before .before .before .log-space .ensures) (c .before .before .before .before .before .before .before .before .before .before .before .before .before .before .before .before .before .text-space .ensures))
+print-job-requires c κs = ((omega (arith, c .before .before .before .before .before .before .before .before .before .before .before .before .before .before .before .read-full .ensures), room (c .before .before .before .before .before .before .before .before .before .before .before .before .before .before .before .before .before .before .log-space .result) (c .before .before .before .before .before .before .before .before .before .before .before .before .before .before .before .before .before .text-space .result) (c .before .before .before .before .before .before .before .before .before .before .before .before .before .before .before .before .before .before .log-space .ensures) (c .before .before .before .before .before .before .before .before .before .before .before .before .before .before .before .before .before .text-space .ensures)), blank refl refl refl refl refl refl refl refl refl refl refl)
 
 returns : tie.Need-returns
 returns c = search needs
@@ -76,7 +71,6 @@ main-spec =
     text-space-requires
     slice-aggregate-read-full
     read-full-requires
-    array-share-prefix-input
     slice-aggregate-print-job
     slice-aggregate-print-job-2
     slice-aggregate-print-job-3
@@ -90,6 +84,5 @@ main-spec =
     slice-aggregate-print-job-11
     slice-aggregate-print-job-12
     slice-aggregate-print-job-13
-    slice-aggregate-print-job-14
     print-job-requires
     returns)

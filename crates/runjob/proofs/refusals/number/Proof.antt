@@ -1,7 +1,6 @@
 -- `runjob::refusals::number` meets its contract. Assumes nothing.
 use borrow.Author.Needs.{needs}
 use mathlib.Core.Path.{ap}
-use Prim.Native.Nat.{ℕ}
 use Rattle.machine.specs.Refusal.{Refusal}
 use Rattle.runjob.proofs.refusals.number.Statement.{statement}
 use Rattle.runjob.proofs.refusals.number.Tie as tie

@@ -1,0 +1,2 @@
+// Choices between numbers, for all layers.
+pub mod numbers;

@@ -1,0 +1,7 @@
+-- What the contracts cite.
+pub mod HelperCall
+pub mod OpenCall
+pub mod ReplayCall
+pub mod RunCall
+pub mod StepCall
+pub mod ThinCall

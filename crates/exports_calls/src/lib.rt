@@ -1,0 +1,8 @@
+// The calls over numbers and slices, by those of the machine and of replay.
+pub mod helper_variables;
+pub mod open;
+pub mod replay_call;
+pub mod run;
+pub mod step;
+pub mod thin;
+pub mod trace;

@@ -1,0 +1,63 @@
+// run over numbers and slices.
+ghost use mathlib.Core.Path.{_≡_};
+ghost use Rattle.machine.specs.Lent.{codeIn, memoryIn, memoryOut};
+ghost use Rattle.exports_words.specs.Calls.{called};
+ghost use Rattle.exports_calls.specs.RunCall.{runCall};
+use exports_words::fits::fits;
+use exports_words::registers::read_registers;
+use exports_words::registers::write_registers;
+use exports_words::report::run_report;
+use exports_words::report::turn_down;
+use exports_words::report::write_answer;
+use machine_vm::run::run;
+
+// A refused run keeps the steps before the refused one.
+pub fn run_call(
+    registers: &mut [u64],
+    answer: &mut [u64],
+    budget: u64,
+    opcodes: &[u64],
+    arguments: &[u64],
+    public: &[u64],
+    secret: &[u64],
+    digests: &[u64],
+    op_stack: &mut [u64],
+    origins: &mut [u64],
+    destinations: &mut [u64],
+    addresses: &mut [u64],
+    values: &mut [u64],
+    output: &mut [u64],
+) -> u64
+    ensures { λ r. ⌜ called r (now (registers .exit)) (now (answer .exit))
+        (memoryOut «op_stack» origins destinations addresses values output)
+        ≡ runCall budget (now (registers .entry)) (now (answer .entry))
+        (codeIn opcodes arguments public secret digests)
+        (memoryIn «op_stack» origins destinations addresses values output) ⌝ }
+{
+    if fits(registers, answer, 7) {
+        let state = read_registers(registers);
+        let r = run(
+            budget,
+            state,
+            opcodes,
+            arguments,
+            public,
+            secret,
+            digests,
+            op_stack,
+            origins,
+            destinations,
+            addresses,
+            values,
+            output,
+        );
+        let ending = r.ending;
+        let report = run_report(ending, r.count, r.bytes);
+        write_registers(registers, r.state);
+        write_answer(answer, report);
+        report.number
+    } else {
+        turn_down(answer);
+        1
+    }
+}

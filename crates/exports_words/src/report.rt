@@ -1,0 +1,118 @@
+// What a call answers, as a slice of seven words.
+ghost use mathlib.Core.Path.{_≡_};
+ghost use lib.ListN.{length};
+ghost use Rattle.machine.specs.Refusal.{refusalOf};
+ghost use Rattle.machine_perform.specs.AnswerView.{answerIn};
+ghost use Rattle.machine_steps.specs.RanView.{endingIn};
+ghost use Rattle.exports_words.specs.Report.{unrefused, report, misfit, answerOf, saidOf, stepReport, openReport, runReport};
+use machine::refusal::InstructionError;
+use machine_perform::answer::Answer;
+use machine_refusals::refusals::numbered;
+use machine_steps::answer::Ending;
+use tip5::words::copy;
+
+// The seven words of an answer.
+pub struct Report {
+    pub ending: u64,
+    pub number: u64,
+    pub word0: u64,
+    pub word1: u64,
+    pub word2: u64,
+    pub steps: u64,
+    pub bytes: u64,
+}
+
+// Ended with no refusal, in one of the ways 0 to 2.
+fn unrefused(ending: u64, steps: u64, bytes: u64) -> Report
+    ensures { λ r. ⌜ r ≡ report ending unrefused steps bytes ⌝ }
+{
+    Report {
+        ending: ending,
+        number: 0,
+        word0: 0,
+        word1: 0,
+        word2: 0,
+        steps: steps,
+        bytes: bytes,
+    }
+}
+
+fn refused(error: InstructionError, steps: u64, bytes: u64) -> Report
+    ensures { λ r. ⌜ r ≡ report 3 (refusalOf error) steps bytes ⌝ }
+{
+    let refusal = numbered(error);
+    Report {
+        ending: 3,
+        number: refusal.number,
+        word0: refusal.word0,
+        word1: refusal.word1,
+        word2: refusal.word2,
+        steps: steps,
+        bytes: bytes,
+    }
+}
+
+pub fn step_report(answer: Answer, bytes: usize) -> Report
+    ensures { λ r. ⌜ r ≡ stepReport (answerIn answer) bytes ⌝ }
+{
+    match answer {
+        Answer::Took => unrefused(0, 1, bytes as u64),
+        Answer::Refused(error) => refused(error, 0, bytes as u64),
+    }
+}
+
+pub fn open_report(answer: Answer) -> Report
+    ensures { λ r. ⌜ r ≡ openReport (answerIn answer) ⌝ }
+{
+    match answer {
+        Answer::Took => unrefused(0, 0, 0),
+        Answer::Refused(error) => refused(error, 0, 0),
+    }
+}
+
+pub fn run_report(ending: Ending, count: u64, bytes: usize) -> Report
+    ensures { λ r. ⌜ r ≡ runReport (endingIn ending) count bytes ⌝ }
+{
+    match ending {
+        Ending::Halted => unrefused(0, count, bytes as u64),
+        Ending::Spent => unrefused(1, count, bytes as u64),
+        Ending::Full => unrefused(2, count, bytes as u64),
+        Ending::Refused(error) => refused(error, count, bytes as u64),
+    }
+}
+
+pub fn write_answer(answer: &mut [u64], report: Report)
+    requires { ⌜ length (now answer) ≡ 7 ⌝ }
+    ensures { λ _. ⌜ now (answer .exit) ≡ answerOf report ⌝ }
+{
+    let words = [
+        report.ending,
+        report.number,
+        report.word0,
+        report.word1,
+        report.word2,
+        report.steps,
+        report.bytes,
+    ];
+    copy(answer, 0, &words, 7);
+}
+
+// A slice of another length, or a word in the registers that no register can hold: an answer of seven words says so, any other stays.
+pub fn turn_down(answer: &mut [u64])
+    ensures { λ _. ⌜ now (answer .exit) ≡ saidOf (now (answer .entry)) misfit ⌝ }
+{
+    if answer.len() == 7 {
+        write_answer(
+            answer,
+            Report {
+                ending: 3,
+                number: 1,
+                word0: 0,
+                word1: 0,
+                word2: 0,
+                steps: 0,
+                bytes: 0,
+            },
+        );
+    }
+}

@@ -1,0 +1,2 @@
+// The helper variables behind place A.
+pub mod helper_variables;

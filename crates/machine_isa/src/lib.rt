@@ -1,0 +1,3 @@
+// The table of instructions, and the op stack.
+pub mod instruction;
+pub mod op_stack;

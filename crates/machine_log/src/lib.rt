@@ -1,0 +1,2 @@
+// The records of a step, as bytes.
+pub mod calls;

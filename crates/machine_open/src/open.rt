@@ -1,0 +1,124 @@
+// open: place A, then the machine before its first step.
+ghost use mathlib.Core.Path.{_≡_};
+ghost use Prim.Native.Nat.{_≤_};
+ghost use lib.ListN.{length, replicate};
+ghost use Rattle.machine.specs.Lent.{codeIn, memoryIn, memoryOut};
+ghost use Rattle.machine.specs.Open.{openedStack};
+ghost use Rattle.machine_open.specs.OpenView.{registersOf, Opens};
+use machine::refusal::InstructionError;
+use machine::state::VMState;
+use machine_isa::op_stack::apply;
+use machine_isa::op_stack::clear;
+use machine_perform::answer::Answer;
+use machine_perform::answer::Moved;
+use machine_place_a::checks::check_open;
+use tip5::sponge::Sponge;
+
+// All registers 0 but for these two, and no sponge.
+fn registers(depth: usize, cells: usize) -> VMState
+    ensures { λ r. ⌜ r ≡ registersOf depth cells ⌝ }
+{
+    let sponge = Sponge {
+        words: [0u64; 16],
+        set: false,
+    };
+    VMState {
+        clock: 0,
+        pointer: 0,
+        depth: depth,
+        jumps: 0,
+        cells: cells,
+        outputs: 0,
+        publics: 0,
+        secrets: 0,
+        digests: 0,
+        sponge: sponge,
+        halted: false,
+    }
+}
+
+// The digest reversed at the bottom, and zeros above: all words are taken off, and these five put on.
+fn open_stack(s: &mut [u64], digest: [u64; 5])
+    requires { ⌜ 16 ≤ length (now s) ⌝ }
+    ensures { λ _. ⌜ now (s .exit) ≡ openedStack digest (now (s .entry)) ⌝ }
+{
+    let words = [
+        digest[4],
+        digest[3],
+        digest[2],
+        digest[1],
+        digest[0],
+        0,
+        0,
+        0,
+        0,
+        0,
+        0,
+        0,
+        0,
+        0,
+        0,
+        0,
+    ];
+    let n = s.len();
+    apply(s, n, n, words, 5);
+}
+
+// Zeros throughout.
+fn wipe(s: &mut [u64])
+    ensures { λ _. ⌜ now (s .exit) ≡ replicate (length (now (s .entry))) 0 ⌝ }
+{
+    let n = s.len();
+    clear(s, 0, n);
+}
+
+// RAM and output are looked at and stay. Refused, nothing lent is changed, and the state is zeros.
+pub fn open(
+    digest: [u64; 5],
+    cells: usize,
+    opcodes: &[u64],
+    arguments: &[u64],
+    public: &[u64],
+    secret: &[u64],
+    digests: &[u64],
+    op_stack: &mut [u64],
+    origins: &mut [u64],
+    destinations: &mut [u64],
+    addresses: &[u64],
+    values: &[u64],
+    output: &[u64],
+) -> Moved
+    ensures { λ r. ⌜ Opens digest (codeIn opcodes arguments public secret digests)
+        (memoryIn «op_stack» origins destinations addresses values output)
+        cells r (memoryOut «op_stack» origins destinations addresses values output) ⌝ }
+{
+    let n = check_open(
+        digest,
+        opcodes,
+        arguments,
+        public,
+        secret,
+        digests,
+        op_stack,
+        origins,
+        destinations,
+        addresses,
+        values,
+        output,
+        cells,
+    );
+    if n == 0 {
+        open_stack(op_stack, digest);
+        wipe(origins);
+        wipe(destinations);
+        Moved {
+            answer: Answer::Took,
+            state: registers(16, cells),
+        }
+    } else {
+        Moved {
+            answer: Answer::Refused(InstructionError::Numbered(n)),
+            state: registers(0, 0),
+        }
+    }
+}

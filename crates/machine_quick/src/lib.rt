@@ -1,0 +1,2 @@
+// A step that changes op stack, pointer and clock only.
+pub mod quick;

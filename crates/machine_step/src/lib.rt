@@ -1,0 +1,3 @@
+// A step behind place A, with its records or without.
+pub mod advance;
+pub mod records;

@@ -1,0 +1,3 @@
+// The steps of run and of trace_execution.
+pub mod answer;
+pub mod steps;

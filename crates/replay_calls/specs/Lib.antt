@@ -1,0 +1,2 @@
+-- What the contracts cite, and what demand 3 claims.
+pub mod ReplayView

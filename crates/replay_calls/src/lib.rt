@@ -1,0 +1,3 @@
+// Replay: the call.
+pub mod call;
+pub mod place_a;

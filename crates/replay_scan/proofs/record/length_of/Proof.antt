@@ -1,0 +1,32 @@
+-- `replay_scan::record::length_of` meets its contract. Assumes nothing.
+use borrow.Author.Tests.{ne-eqb}
+use Rattle.machine.specs.Records.{lengthOf}
+use Rattle.replay_scan.proofs.record.length_of.Statement.{statement}
+use Rattle.replay_scan.proofs.record.length_of.Tie as tie
+
+returns : tie.Need-returns
+unfolding lengthOf
+returns c = rw (c .match .keys1)
+
+returns-2 : tie.Need-returns-2
+unfolding lengthOf
+returns-2 c = rw (c .match .keys2)
+
+returns-3 : tie.Need-returns-3
+unfolding lengthOf
+returns-3 c = rw (c .match .keys3)
+
+returns-4 : tie.Need-returns-4
+unfolding lengthOf
+returns-4 c = rw (c .match .keys4)
+
+returns-5 : tie.Need-returns-5
+unfolding lengthOf
+returns-5 c = rw (c .match .keys5)
+
+returns-6 : tie.Need-returns-6
+unfolding lengthOf
+returns-6 c = simp (ne-eqb _ _ (c .match .rest .0 .0 .0 .0 .1), ne-eqb _ _ (c .match .rest .0 .0 .0 .1), ne-eqb _ _ (c .match .rest .0 .0 .1), ne-eqb _ _ (c .match .rest .0 .1), ne-eqb _ _ (c .match .rest .1))
+
+pub length-of-spec : {M : Type 1} → statement M
+length-of-spec = tie.close (tie.spec returns returns-2 returns-3 returns-4 returns-5 returns-6)

@@ -1,0 +1,45 @@
+-- What the code reads of a log s, at a place.
+use Prim.Native.Nat.{ℕ, _+_, _<_, _≤_}
+use mathlib.Core.Path.{_≡_}
+use mathlib.Core.List.{List}
+use lib.ListN.{length, take, drop}
+use lib.Dec.{eqb}
+use Rattle.choices.specs.Choice.{cond}
+use Rattle.machine.specs.Bytes.{numberOf}
+use Rattle.machine.specs.Records.{Record, stack, ram, lengthOf, Parsed, ended, broken, found, recordOf, parse}
+use Rattle.replay_scan.specs.declared.record.Head.{Head}
+use Rattle.replay_scan.specs.declared.record.Fields.{Fields}
+
+-- the number that n bytes give
+unfoldable pub numberAt : List ℕ → ℕ → ℕ → ℕ
+numberAt s at n = numberOf (take n (drop at s))
+
+pub record Number (s : List ℕ) (at n bound r : ℕ) : Type 0 where
+  pub is : r ≡ numberAt s at n
+  pub small : r < bound
+
+-- what a head says of the bytes s at whose start it stands
+unfoldable pub headed : Head → List ℕ → Parsed
+headed h s = cond (eqb (h .state) 0) ended (cond (eqb (h .state) 1) broken (found (recordOf (h .kind) (take (h .size + 2) s)) (drop (h .size + 2) s)))
+
+-- the record of kind k at a place
+abbrev pub recordAt : List ℕ → ℕ → ℕ → Record
+recordAt s at k = recordOf k (take (lengthOf k + 2) (drop at s))
+
+pub record Headed (s : List ℕ) (at : ℕ) (h : Head) : Type 0 where
+  pub is : headed h (drop at s) ≡ parse (drop at s)
+  pub fits : h .state ≡ 2 → at + h .size + 2 ≤ length s
+  pub sized : h .state ≡ 2 → h .size ≡ lengthOf (h .kind)
+  pub two : h .state ≤ 2
+
+pub record OfStack (s : List ℕ) (at : ℕ) (f : Fields) : Type 0 where
+  pub is : recordOf 4 (take 25 (drop at s)) ≡ stack (f .clock) (f .place) (f .dir) (f .value)
+  pub clock : f .clock < 4294967296
+  pub place : f .place < 18446744073709551616
+  pub value : f .value < 18446744073709551616
+
+pub record OfRam (s : List ℕ) (at : ℕ) (f : Fields) : Type 0 where
+  pub is : recordOf 5 (take 25 (drop at s)) ≡ ram (f .clock) (f .place) (f .value) (f .dir)
+  pub clock : f .clock < 4294967296
+  pub place : f .place < 18446744073709551616
+  pub value : f .value < 18446744073709551616

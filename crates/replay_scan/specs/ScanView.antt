@@ -1,0 +1,59 @@
+-- What the code gives for one record of a scan.
+use Prim.Native.Nat.{ℕ, _+_, _<_, _≤_}
+use mathlib.Core.Path.{_≡_}
+use mathlib.Core.Bool.{true, false}
+use mathlib.Core.List.{List}
+use lib.ListN.{length}
+use lib.Dec.{eqb}
+use Rattle.choices.specs.Choice.{cond}
+use Rattle.machine.specs.Ram.{Cells}
+use Rattle.machine.specs.Records.{Record}
+use Rattle.replay_scan.specs.declared.record.Fields.{Fields}
+use Rattle.replay_scan.specs.declared.scan.Turn.{Turn}
+use Rattle.replay.specs.Replay.{built, stackFault, stackTurn, Verdict, stops, wrong, goes}
+use Rattle.replay_scan.specs.Scan.{restOf, Fine}
+
+-- the depth's places are in the stack slice
+pub record Places (s : List ℕ) (depth : ℕ) : Type 0 where
+  pub low : 16 ≤ depth
+  pub high : depth ≤ length s + 16
+
+-- 42 to 44 of a record of the op stack, whatever the last clock and the cells are
+pub record StackFault (s : List ℕ) (depth : ℕ) (f : Fields) (n : ℕ) : Type 0 where
+  pub is : (t : ℕ) (c : Cells) → n ≡ stackFault (built t depth s c) (f .place) (f .dir) (f .value)
+
+-- a write has room, a read a word
+pub record Movable (s : List ℕ) (depth : ℕ) (f : Fields) : Type 0 where
+  pub places : Places s depth
+  pub read : f .dir ≡ 0 → 17 ≤ depth
+  pub write : 0 < f .dir → depth < length s + 16
+
+-- what it makes of the stack
+pub record Moved (s : List ℕ) (depth : ℕ) (f : Fields) (after : List ℕ) (r : ℕ) : Type 0 where
+  pub is : (t : ℕ) (c : Cells) → stackTurn (built t depth s c) (f .clock) (f .dir) (f .value) ≡ built (f .clock) r after c
+  pub places : Places after r
+  pub room : length after ≡ length s
+
+-- what a turn stands for
+unfoldable pub verdictOf : Turn → List ℕ → Cells → Verdict
+verdictOf r s c = cond (r .going) (goes (built (r .last) (r .depth) s c)) (cond (eqb (r .number) 0) stops (wrong (r .number)))
+
+-- the scan ends
+pub record Off (n d : ℕ) (r : Turn) : Type 0 where
+  pub going : r .going ≡ false
+  pub number : r .number ≡ n
+  pub depth : r .depth ≡ d
+
+-- what a record x does, whatever the cells are
+pub record Turns (j last depth : ℕ) (s : List ℕ) (x : Record) (after : List ℕ) (r : Turn) : Type 0 where
+  pub is : (c : Cells) → restOf j (built last depth s c) x ≡ verdictOf r after c
+  pub fine : r .going ≡ true → Fine x
+  pub kept : r .going ≡ false → after ≡ s
+  pub places : Places after (r .depth)
+  pub room : length after ≡ length s
+
+-- the same of a record that leaves the stack as it is
+pub record Stays (j last depth : ℕ) (x : Record) (r : Turn) : Type 0 where
+  pub is : (s : List ℕ) (c : Cells) → restOf j (built last depth s c) x ≡ verdictOf r s c
+  pub fine : r .going ≡ true → Fine x
+  pub same : r .depth ≡ depth

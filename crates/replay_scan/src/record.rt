@@ -1,0 +1,151 @@
+// A record of a log, read where it stands.
+ghost use mathlib.Core.Path.{_≡_};
+ghost use Prim.Native.Nat.{_+_, _≤_, _<_};
+ghost use lib.ListN.{length, getD};
+ghost use Rattle.machine.specs.Records.{lengthOf};
+ghost use Rattle.replay_scan.specs.RecordView.{Number, Headed, OfStack, OfRam};
+
+// What stands at a place: 0 the end, 1 no whole record, 2 a record of this kind, of `size` bytes behind its length field.
+pub struct Head {
+    pub state: u64,
+    pub kind: u64,
+    pub size: usize,
+}
+
+// The fields of a record of the op stack, whose pointer is `place`, or of RAM, whose address it is.
+pub struct Fields {
+    pub clock: u64,
+    pub place: u64,
+    pub value: u64,
+    pub dir: u64,
+}
+
+// ---- numbers, low byte first
+
+fn wide(x: u8) -> u64
+    ensures { λ r. ⌜ (r ≡ x) × (r < 256) ⌝ }
+{
+    x as u64
+}
+
+fn byte_at(log: &[u8], at: usize) -> u64
+    requires { ⌜ at < length (now log) ⌝ }
+    ensures { λ r. ⌜ (r ≡ getD (now (log .entry)) at 0) × (r < 256) ⌝ }
+{
+    wide(log[at])
+}
+
+pub fn get2(log: &[u8], at: usize) -> u64
+    requires { ⌜ at + 2 ≤ length (now log) ⌝ }
+    ensures { λ r. ⌜ Number (now (log .entry)) at 2 65536 r ⌝ }
+{
+    let low = byte_at(log, at);
+    let high = byte_at(log, at + 1);
+    low + 256 * high
+}
+
+fn get4(log: &[u8], at: usize) -> u64
+    requires { ⌜ at + 4 ≤ length (now log) ⌝ }
+    ensures { λ r. ⌜ Number (now (log .entry)) at 4 4294967296 r ⌝ }
+{
+    let low = get2(log, at);
+    let high = get2(log, at + 2);
+    low + 65536 * high
+}
+
+fn get8(log: &[u8], at: usize) -> u64
+    requires { ⌜ at + 8 ≤ length (now log) ⌝ }
+    ensures { λ r. ⌜ Number (now (log .entry)) at 8 18446744073709551616 r ⌝ }
+{
+    let low = get4(log, at);
+    let high = get4(log, at + 4);
+    low + 4294967296 * high
+}
+
+// ---- a record
+
+fn length_of(kind: u64) -> usize
+    ensures { λ r. ⌜ r ≡ lengthOf kind ⌝ }
+{
+    match kind {
+        1 => 2,
+        2 => 772,
+        3 => 20,
+        4 => 23,
+        5 => 23,
+        _ => 0,
+    }
+}
+
+fn none(state: u64) -> Head
+    ensures { λ r. ⌜ (r .state ≡ state) × (r .kind ≡ 0) × (r .size ≡ 0) ⌝ }
+{
+    Head {
+        state: state,
+        kind: 0,
+        size: 0,
+    }
+}
+
+// The frame of what stands at a place.
+pub fn head_at(log: &[u8], at: usize) -> Head
+    requires { ⌜ at ≤ length (now log) ⌝ }
+    ensures { λ r. ⌜ Headed (now (log .entry)) at r ⌝ }
+{
+    let left = log.len() - at;
+    if left == 0 {
+        return none(0);
+    }
+    if left < 4 {
+        return none(1);
+    }
+    let size = get2(log, at) as usize;
+    let kind = get2(log, at + 2);
+    let want = length_of(kind);
+    if want == 0 {
+        return none(1);
+    }
+    if size != want {
+        return none(1);
+    }
+    if left < size + 2 {
+        return none(1);
+    }
+    Head {
+        state: 2,
+        kind: kind,
+        size: size,
+    }
+}
+
+pub fn stack_fields(log: &[u8], at: usize) -> Fields
+    requires { ⌜ at + 25 ≤ length (now log) ⌝ }
+    ensures { λ r. ⌜ OfStack (now (log .entry)) at r ⌝ }
+{
+    let clock = get4(log, at + 4);
+    let place = get8(log, at + 8);
+    let dir = byte_at(log, at + 16);
+    let value = get8(log, at + 17);
+    Fields {
+        clock: clock,
+        place: place,
+        value: value,
+        dir: dir,
+    }
+}
+
+pub fn ram_fields(log: &[u8], at: usize) -> Fields
+    requires { ⌜ at + 25 ≤ length (now log) ⌝ }
+    ensures { λ r. ⌜ OfRam (now (log .entry)) at r ⌝ }
+{
+    let clock = get4(log, at + 4);
+    let place = get8(log, at + 8);
+    let value = get8(log, at + 16);
+    let dir = byte_at(log, at + 24);
+    Fields {
+        clock: clock,
+        place: place,
+        value: value,
+        dir: dir,
+    }
+}

@@ -1,0 +1,3 @@
+// The table of written cells, and merging.
+pub mod merge;
+pub mod table;
