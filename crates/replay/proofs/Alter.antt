@@ -2,7 +2,7 @@
 use mathlib.Core.Path.{_≡_, refl, sym, ap, subst, _∙_}
 use mathlib.Core.Bool.{Bool, true, false}
 use mathlib.Core.List.{List, [], _∷_, _++_}
-use Prim.Native.Nat.{ℕ, _+_, _-_, _<_}
+use Prim.Native.Nat.{ℕ, _-_, _<_}
 use native.Mathlib.Omega.{arith}
 use lib.ListN.{getD}
 use Rattle.choices.specs.Choice.{cond, firstOf}
@@ -62,15 +62,15 @@ fault-not x = go (isWord (bytesOf 8 x))
     go true e = omega arith
     go false e = omega arith
 
-fields-address : (q v : ℕ) → fields40 0 q v ≡ 0 → word40 q ≡ 0
+fields-address : (q v : ℕ) → fields40 0 q v ≡ 0 → word40 (bytesOf 8 q) ≡ 0
 unfolding fields40
 fields-address q v h = first-nil _ _ (first-nil _ _ h .1) .0
 
-fields-value : (q x : ℕ) → word40 q ≡ 0 → fields40 0 q x ≡ word40 x
+fields-value : (q x : ℕ) → word40 (bytesOf 8 q) ≡ 0 → fields40 0 q x ≡ word40 (bytesOf 8 x)
 unfolding fields40
 fields-value q x h = first-zero _ _ (above-not 0 1 40 (omega arith)) ∙ first-zero _ _ h
 
-fault-is : (q x m k : ℕ) → word40 q ≡ 0 → m ≡ 0 → k ≡ 43 → firstOf (fields40 0 q x) (firstOf m k) ≡ faultOf x
+fault-is : (q x m k : ℕ) → word40 (bytesOf 8 q) ≡ 0 → m ≡ 0 → k ≡ 43 → firstOf (fields40 0 q x) (firstOf m k) ≡ faultOf x
 unfolding word40
 fault-is q x m k h e f = rw (fields-value q x h) (go (isWord (bytesOf 8 x)))
   where

@@ -6,6 +6,7 @@ pub mod Chains
 pub mod Calls
 pub mod Alter
 pub mod Bytes
+pub mod FieldBytes
 pub mod Demand3
 pub mod Job
 pub mod Triton

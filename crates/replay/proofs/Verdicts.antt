@@ -10,6 +10,7 @@ use lib.Dec.{eqb, ltb}
 use Rattle.machine.specs.Words.{p}
 use Rattle.choices.specs.Choice.{cond, firstOf, aboveOf}
 use Rattle.machine.specs.Ram.{held, stored}
+use Rattle.machine.specs.Bytes.{bytesOf}
 use Rattle.machine.specs.Records.{Record, other, stack, ram}
 use Rattle.choices.proofs.Choice.{first-zero, above-not, differ-not}
 use Rattle.machine.proofs.Bytes.{is-word-of}
@@ -92,14 +93,14 @@ replay-late j b (r ∷ rs) (more p h) = go r p (replay-late j b rs h)
 -- ---- a record without a fault
 
 -- no fault 40 in a word
-pub word-fine : (v : ℕ) → v < p → word40 v ≡ 0
+pub word-fine : (v : ℕ) → v < p → word40 (bytesOf 8 v) ≡ 0
 unfolding word40
 word-fine v h =
     let s : v < 18446744073709551616 = omega arith in
     rw (is-word-of v s, lt-ltb v p h)
 
 -- and a number of 64 bits without it is a word
-pub word-nil : (v : ℕ) → v < 18446744073709551616 → word40 v ≡ 0 → v < p
+pub word-nil : (v : ℕ) → v < 18446744073709551616 → word40 (bytesOf 8 v) ≡ 0 → v < p
 unfolding word40
 word-nil v h e = go (ltb v p) refl (rw (is-word-of v h) at e)
   where

@@ -22,13 +22,13 @@ built t d s c = record { last = t; depth = d; words = s; cells = c }
 
 -- ---- the faults of a record, in order; 0 where there is none
 
--- 40: not a word
-unfoldable pub word40 : ℕ → ℕ
-word40 v = cond (isWord (bytesOf 8 v)) 0 40
+-- 40: eight bytes that are no word's, compared with those of p byte by byte from the top
+unfoldable pub word40 : List ℕ → ℕ
+word40 b = cond (isWord b) 0 40
 
--- 40: a direction above 1, or one of two numbers that is no word
+-- 40: a direction above 1, or one of two numbers whose eight bytes are no word's
 unfoldable pub fields40 : ℕ → ℕ → ℕ → ℕ
-fields40 d q v = firstOf (aboveOf d 1 40) (firstOf (word40 q) (word40 v))
+fields40 d q v = firstOf (aboveOf d 1 40) (firstOf (word40 (bytesOf 8 q)) (word40 (bytesOf 8 v)))
 
 -- 42 to 44 of a stack record with pointer q, direction and value v. A read needs depth above 16 and the pointer below it,
 -- and the word that stands there; a write needs the depth as its pointer, and room

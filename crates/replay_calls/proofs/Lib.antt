@@ -3,3 +3,4 @@ pub mod PlaceALaws
 pub mod Joined
 pub mod Decisions
 pub mod Deciding
+pub mod QuietLaws

@@ -1,2 +1,3 @@
 -- What the contracts cite, and what demand 3 claims.
 pub mod ReplayView
+pub mod Quiet

@@ -8,6 +8,7 @@ ghost use Rattle.replay_group.specs.GroupView.{Lent};
 ghost use Rattle.replay_group.specs.Decided.{Decides, Left, Scans, Rebuilds};
 ghost use Rattle.replay.specs.Replay.{replayOf};
 ghost use Rattle.replay_calls.specs.ReplayView.{replayedBy};
+ghost use Rattle.replay_calls.specs.Quiet.{Quiet};
 use crate::place_a::check_replay;
 use crate::place_a::clear;
 use replay_group::group::sweep_all;
@@ -215,18 +216,26 @@ fn by_large_table(
     )
 }
 
-// A log with fewer bytes has fewer records of RAM than the small table has cells.
+// A log without a record of RAM, whose `ram` is 0, is not read again. One with fewer bytes has fewer records of RAM than the small
+// table has cells.
 fn by_table(
     log: &[u8],
     to: usize,
     number: u64,
+    ram: u64,
     addresses: &mut [u64],
     values: &mut [u64],
     count: usize,
 ) -> Rebuilt
-    requires { ⌜ Scans (now log) to (cellsOf count (now addresses) (now values)) ⌝ }
+    requires { ⌜ Scans (now log) to (cellsOf count (now addresses) (now values)) × Quiet (now log) to ram ⌝ }
     ensures { λ r. ⌜ Rebuilds (now (log .entry)) to number (cellsOf count (now (addresses .entry)) (now (values .entry))) (r .number) (cellsOf (r .cells) (now (addresses .exit)) (now (values .exit))) ⌝ }
 {
+    if ram == 0 {
+        return Rebuilt {
+            number: number,
+            cells: count,
+        };
+    }
     if to < 12800 {
         return by_small_table(log, to, number, addresses, values, count);
     }
@@ -249,7 +258,15 @@ pub fn replay(
         return refused(fault);
     }
     let scan = scan_log(log, words, clock);
-    let r = by_table(log, scan.end, scan.number, addresses, values, count);
+    let r = by_table(
+        log,
+        scan.end,
+        scan.number,
+        scan.ram,
+        addresses,
+        values,
+        count,
+    );
     if r.number != 0 {
         clear(words);
         return refused(r.number);

@@ -1,26 +1,30 @@
 -- The frame of a record at a place of the log.
 use mathlib.Core.Path.{_≡_, refl, sym, _∙_}
 use mathlib.Core.List.{List, [], _∷_}
-use Prim.Native.Nat.{ℕ, _+_, _-_, _≤_, _<_}
+use Prim.Native.Nat.{ℕ, _+_, _-_, _/_, _%_, _≤_, _<_}
 use native.Mathlib.Omega.{arith}
-use borrow.Author.Tests.{lt-ltb, le-ltb, eq-eqb, ne-eqb}
+use mathlib.Core.Bool.{Bool, true, false}
+use borrow.Author.Tests.{lt-ltb, le-ltb, eq-eqb, ne-eqb, ltb-true, ltb-false}
+use lib.Dec.{ltb}
+use Rattle.choices.specs.Choice.{cond}
 use lib.ListN.{length, take, drop, length-drop, drop-of-length-le}
 use lib.Seq.{drop-drop}
 use Rattle.machine.specs.Bytes.{numberOf}
 use Rattle.machine.specs.Records.{lengthOf, broken, found, framed, parse}
-use Rattle.replay_scan.specs.RecordView.{numberAt, recordAt, headed, Headed}
+use Rattle.replay_scan.specs.RecordView.{numberAt, recordAt, Framed, noHead, wholeHead, headed, Headed}
 use Rattle.replay_scan.specs.declared.record.Head.{Head}
 
--- a head that says where no record stands: its state alone counts
-pub head-end : (s : List ℕ) (at : ℕ) (b : Head) → b .state ≡ 0 → length s - at ≡ 0 → Headed s at b
-unfolding headed parse
-head-end s at b q h =
-    let l : length s ≤ at = omega arith in
-    record { is = rw (q, drop-of-length-le s l); fits = λ e. absurd (omega arith); sized = λ e. absurd (omega arith); two = omega arith }
+-- ---- no record
 
-broken-is : (s : List ℕ) (at : ℕ) (b : Head) → b .state ≡ 1 → parse (drop at s) ≡ broken → Headed s at b
+pub head-end : (s : List ℕ) (at : ℕ) → length s - at ≡ 0 → Headed s at (noHead 0)
+unfolding headed parse
+head-end s at h =
+    let l : length s ≤ at = omega arith in
+    record { is = rw (drop-of-length-le s l); fits = λ e. absurd (omega arith); sized = λ e. absurd (omega arith); two = omega arith }
+
+broken-is : (s : List ℕ) (at : ℕ) → parse (drop at s) ≡ broken → Headed s at (noHead 1)
 unfolding headed
-broken-is s at b q e = record { is = rw q (sym e); fits = λ e. absurd (omega arith); sized = λ e. absurd (omega arith); two = omega arith }
+broken-is s at e = record { is = sym e; fits = λ e. absurd (omega arith); sized = λ e. absurd (omega arith); two = omega arith }
 
 parse-short : (d : List ℕ) → (length d ≡ 0 → ⊥) → length d < 4 → parse d ≡ broken
 unfolding parse
@@ -32,47 +36,52 @@ unfolding parse
 parse-long [] h = absurd (omega arith)
 parse-long (x ∷ d) h = rw (le-ltb (length (x ∷ d)) 4 h)
 
-pub head-short : (s : List ℕ) (at : ℕ) (b : Head) → b .state ≡ 1 → (length s - at ≡ 0 → ⊥) → length s - at < 4 → Headed s at b
-head-short s at b q h k = broken-is s at b q (parse-short (drop at s) (λ e. h (sym (length-drop at s) ∙ e)) (rw (length-drop at s) k))
+pub head-short : (s : List ℕ) (at : ℕ) → (length s - at ≡ 0 → ⊥) → length s - at < 4 → Headed s at (noHead 1)
+head-short s at h k = broken-is s at (parse-short (drop at s) (λ e. h (sym (length-drop at s) ∙ e)) (rw (length-drop at s) k))
 
-head-framed : (s : List ℕ) (at : ℕ) → 4 ≤ length s - at → parse (drop at s) ≡ framed (numberAt s at 2) (numberAt s (at + 2) 2) (drop at s)
-unfolding numberAt
-head-framed s at h = rw (← drop-drop 2 at s) (parse-long (drop at s) (rw (length-drop at s) h))
+-- ---- length and kind
 
-module _ (s : List ℕ) (at size kind want : ℕ) (long : 4 ≤ length s - at)
-    (s-is : size ≡ numberAt s at 2) (k-is : kind ≡ numberAt s (at + 2) 2) (w-is : want ≡ lengthOf kind) where
-  here : parse (drop at s) ≡ framed size kind (drop at s)
-  here = head-framed s at long ∙ rw (← s-is, ← k-is)
+module _ (s : List ℕ) (at frame : ℕ) (long : 4 ≤ length s - at) (is : Framed s at frame) where
+  here : parse (drop at s) ≡ framed (frame % 65536) (frame / 65536) (drop at s)
+  unfolding numberAt
+  here = rw (is .size, is .kind, ← drop-drop 2 at s) (parse-long (drop at s) (rw (length-drop at s) long))
 
-  pub head-kind : (b : Head) → b .state ≡ 1 → want ≡ 0 → Headed s at b
+  pub head-kind : lengthOf (frame / 65536) ≡ 0 → Headed s at (noHead 1)
   unfolding framed
-  head-kind b q h = broken-is s at b q (here ∙ rw (eq-eqb (lengthOf kind) 0 (sym w-is ∙ h)))
+  head-kind h = broken-is s at (here ∙ rw h)
 
-  pub head-size : (b : Head) → b .state ≡ 1 → (want ≡ 0 → ⊥) → (size ≡ want → ⊥) → Headed s at b
-  unfolding framed
-  head-size b q h k =
-      let x : lengthOf kind ≡ 0 → ⊥ = λ e. h (w-is ∙ e) in
-      let y : size ≡ lengthOf kind → ⊥ = λ e. k (e ∙ sym w-is) in
-      broken-is s at b q (here ∙ rw (ne-eqb (lengthOf kind) 0 x, ne-eqb size (lengthOf kind) y))
+  module _ (known : lengthOf (frame / 65536) ≡ 0 → ⊥) where
+    pub head-size : (frame % 65536 ≡ lengthOf (frame / 65536) → ⊥) → Headed s at (noHead 1)
+    unfolding framed
+    head-size k = broken-is s at (here ∙ rw (ne-eqb (lengthOf (frame / 65536)) 0 known, ne-eqb (frame % 65536) (lengthOf (frame / 65536)) k))
 
-  pub head-cut : (b : Head) → b .state ≡ 1 → (want ≡ 0 → ⊥) → size ≡ want → length s - at < size + 2 → Headed s at b
-  unfolding framed
-  head-cut b q h k l =
-      let x : lengthOf kind ≡ 0 → ⊥ = λ e. h (w-is ∙ e) in
-      let z : length (drop at s) < size + 2 = rw (length-drop at s) l in
-      broken-is s at b q (here ∙ rw (ne-eqb (lengthOf kind) 0 x, eq-eqb size (lengthOf kind) (k ∙ w-is), lt-ltb (length (drop at s)) (size + 2) z))
+    -- of its kind's length: a record, if it is whole
+    pub head-whole : (kind size : ℕ) → kind ≡ frame / 65536 → size ≡ frame % 65536 → frame % 65536 ≡ lengthOf (frame / 65536) → Headed s at (wholeHead (length s - at) kind size)
+    unfolding framed headed wholeHead
+    head-whole kind size e f k = rw (e, f) (go (ltb (length s - at) (frame % 65536 + 2)) refl)
+      where
+        go : (t : Bool) → ltb (length s - at) (frame % 65536 + 2) ≡ t → Headed s at (cond t (noHead 1) (record { state = 2; kind = frame / 65536; size = frame % 65536 }))
+        go true q =
+            let z : length (drop at s) < frame % 65536 + 2 = rw (length-drop at s) (ltb-true (length s - at) (frame % 65536 + 2) q) in
+            broken-is s at (here ∙ rw (ne-eqb (lengthOf (frame / 65536)) 0 known, eq-eqb (frame % 65536) (lengthOf (frame / 65536)) k, lt-ltb (length (drop at s)) (frame % 65536 + 2) z))
+        go false q =
+            let l = ltb-false (length s - at) (frame % 65536 + 2) q in
+            let z : frame % 65536 + 2 ≤ length (drop at s) = rw (length-drop at s) l in
+            record {
+              is = sym (here ∙ rw (ne-eqb (lengthOf (frame / 65536)) 0 known, eq-eqb (frame % 65536) (lengthOf (frame / 65536)) k, le-ltb (length (drop at s)) (frame % 65536 + 2) z));
+              fits = λ e. omega arith;
+              sized = λ e. k;
+              two = omega arith;
+            }
 
-  pub head-found : (want ≡ 0 → ⊥) → size ≡ want → size + 2 ≤ length s - at → Headed s at (record { state = 2; kind = kind; size = size })
-  unfolding framed headed
-  head-found h k l =
-      let x : lengthOf kind ≡ 0 → ⊥ = λ e. h (w-is ∙ e) in
-      let z : size + 2 ≤ length (drop at s) = rw (length-drop at s) l in
-      record {
-        is = sym (here ∙ rw (ne-eqb (lengthOf kind) 0 x, eq-eqb size (lengthOf kind) (k ∙ w-is), le-ltb (length (drop at s)) (size + 2) z));
-        fits = λ e. omega arith;
-        sized = λ e. k ∙ w-is;
-        two = omega arith;
-      }
+  -- the frames of kinds 4 and 5
+  pub head-stack : frame ≡ 262167 → Headed s at (wholeHead (length s - at) 4 23)
+  unfolding lengthOf
+  head-stack e = head-whole (rw e (λ z. omega arith)) 4 23 (rw e) (rw e) (rw e)
+
+  pub head-ram : frame ≡ 327703 → Headed s at (wholeHead (length s - at) 5 23)
+  unfolding lengthOf
+  head-ram e = head-whole (rw e (λ z. omega arith)) 5 23 (rw e) (rw e) (rw e)
 
 -- where a head says that a record stands, it is read
 pub head-record : (log : List ℕ) (at : ℕ) (h : Head) → Headed log at h → 2 ≤ h .state → parse (drop at log) ≡ found (recordAt log at (h .kind)) (drop (at + (h .size + 2)) log)

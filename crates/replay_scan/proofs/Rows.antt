@@ -1,19 +1,14 @@
 -- The fields of a record, read where they stand in the log.
-use mathlib.Core.Path.{_≡_, refl, ap, _∙_}
-use mathlib.Core.List.{List, [], _∷_}
-use Prim.Native.Nat.{ℕ, zero, suc, _+_, _≤_, _<_}
+use mathlib.Core.Path.{_≡_, ap, _∙_}
+use mathlib.Core.List.{List}
+use Prim.Native.Nat.{ℕ, _+_, _≤_, _<_}
 use native.Mathlib.Omega.{arith}
 use lib.ListN.{take, drop, getD}
-use lib.Seq.{drop-drop, take-take, getD-take, getD-drop}
+use lib.Seq.{drop-drop, getD-take, getD-drop}
 use Rattle.machine.specs.Bytes.{numberOf}
 use Rattle.machine.specs.Records.{stack, ram, recordOf}
+use Rattle.replay.proofs.FieldBytes.{window}
 use Rattle.replay_scan.specs.RecordView.{numberAt}
-
-window : (m n k : ℕ) (d : List ℕ) → m + n ≤ k → take n (drop m (take k d)) ≡ take n (drop m d)
-window zero n k d h = take-take n k d (omega arith)
-window (suc m) n zero d h = absurd (omega arith)
-window (suc m) n (suc k) [] h = refl
-window (suc m) n (suc k) (x ∷ d) h = window m n k d (omega arith)
 
 number-in : (m n k : ℕ) (s : List ℕ) (at : ℕ) → m + n ≤ k → numberOf (take n (drop m (take k (drop at s)))) ≡ numberAt s (at + m) n
 unfolding numberAt

@@ -10,6 +10,7 @@ use lib.Dec.{eqb, ltb}
 use Rattle.choices.specs.Choice.{cond, firstOf, aboveOf, differOf}
 use Rattle.machine.specs.Words.{p}
 use Rattle.machine.specs.Ram.{Cells, cells}
+use Rattle.machine.specs.Bytes.{bytesOf}
 use Rattle.machine.specs.Records.{Record, other, stack, ram, lengthOf, recordOf}
 use Rattle.choices.proofs.Choice.{first-zero, first-left, first-nil, above-is, above-not, above-nil, differ-is, differ-not}
 use Rattle.machine.proofs.Bytes.{is-word-of}
@@ -17,13 +18,13 @@ use Rattle.replay_scan.specs.declared.record.Fields.{Fields}
 use Rattle.replay_scan.specs.declared.scan.Turn.{Turn}
 use Rattle.replay.specs.Replay.{Built, built, word40, fields40, stackFault, stackTurn, judged}
 use Rattle.replay_scan.specs.RecordView.{recordAt, OfStack, OfRam}
-use Rattle.replay_scan.specs.Scan.{restOf, Fine, of-other, of-stack, of-ram}
+use Rattle.replay_scan.specs.Scan.{restOf, Fine, of-other, of-stack, of-ram, ramIn}
 use Rattle.replay_scan.specs.ScanView.{Places, StackFault, Movable, Moved, verdictOf, Off, Turns, Stays}
 use Rattle.replay.proofs.Verdicts.{judged-stops, judged-goes, judged-wrong, word-nil}
 
 -- ---- faults
 
-pub word-above : (v : ℕ) → v < 18446744073709551616 → aboveOf v 18446744069414584320 40 ≡ word40 v
+pub word-above : (v : ℕ) → v < 18446744073709551616 → aboveOf v 18446744069414584320 40 ≡ word40 (bytesOf 8 v)
 unfolding word40
 word-above v h = rw (is-word-of v h) (go (ltb v p) refl)
   where
@@ -138,11 +139,12 @@ module _ (j last depth : ℕ) (s : List ℕ) (f : Fields) (h : Places s depth) w
   off-places o = rw (o .depth) h
 
   pub stack-late : {r : Turn} → j ≤ f .clock → Off 0 depth r → Turns j last depth s of-f s r
-  unfolding restOf
+  unfolding restOf ramIn
   stack-late l o =
       record {
         is = λ c. late-is j _ _ _ s c _ l (o .going) (o .number);
         fine = λ e. of-stack;
+        quiet = λ e q. refl;
         kept = λ e. refl;
         places = off-places o;
         room = refl;
@@ -155,11 +157,12 @@ module _ (j last depth : ℕ) (s : List ℕ) (f : Fields) (h : Places s depth) w
     fault-of c = n-is ∙ rw (own-is, here-is .is last c) (first-assoc _ _ _)
 
     pub stack-wrong : {r : Turn} → (n ≡ 0 → ⊥) → Off n depth r → Turns j last depth s of-f s r
-    unfolding restOf
+    unfolding restOf ramIn
     stack-wrong k o =
         record {
           is = λ c. wrong-is j _ _ _ s c _ early (λ e. k (fault-of c ∙ e)) (o .going) (o .number ∙ fault-of c);
           fine = λ e. of-stack;
+          quiet = λ e q. refl;
           kept = λ e. refl;
           places = off-places o;
           room = refl;
@@ -168,12 +171,13 @@ module _ (j last depth : ℕ) (s : List ℕ) (f : Fields) (h : Places s depth) w
     pub stack-movable : n ≡ 0 → Movable s depth f
     stack-movable e = movable s depth f h (record { is = λ t c. sym (first-nil own here (sym n-is ∙ e) .1) ∙ here-is .is t c })
 
-    pub stack-goes : (after : List ℕ) (d : ℕ) → n ≡ 0 → Moved s depth f after d → Turns j last depth s of-f after (record { going = true; number = 0; last = f .clock; depth = d })
-    unfolding restOf
+    pub stack-goes : (after : List ℕ) (d : ℕ) → n ≡ 0 → Moved s depth f after d → Turns j last depth s of-f after (record { going = true; number = 0; last = f .clock; depth = d; ram = 0 })
+    unfolding restOf ramIn
     stack-goes after d e m =
         record {
           is = λ c. goes-is j _ _ _ after c _ early (sym (fault-of c) ∙ e) refl (m .is last c);
           fine = λ e. of-stack;
+          quiet = λ e q. refl;
           kept = λ e. absurd (let z : _≡_ {A = ℕ} 0 1 = cc in omega arith);
           places = m .places;
           room = m .room;
@@ -198,6 +202,7 @@ module _ (j last depth : ℕ) (f : Fields) where
       record {
         is = λ s c. late-is j _ _ _ s c _ l (o .going) (o .number);
         fine = λ e. absurd (let z : _≡_ {A = ℕ} 0 1 = cc (o .going) in omega arith);
+        quiet = λ e. absurd (let z : _≡_ {A = ℕ} 0 1 = cc (o .going) in omega arith);
         same = o .depth;
       }
 
@@ -208,16 +213,18 @@ module _ (j last depth : ℕ) (f : Fields) where
         record {
           is = λ s c. wrong-is j _ _ _ s c _ early (λ e. k (own-is ∙ e)) (o .going) (o .number ∙ own-is);
           fine = λ e. absurd (let z : _≡_ {A = ℕ} 0 1 = cc (o .going) in omega arith);
+          quiet = λ e. absurd (let z : _≡_ {A = ℕ} 0 1 = cc (o .going) in omega arith);
           same = o .depth;
         }
 
     pub ram-goes : own ≡ 0 → f .place < 18446744073709551616 → f .value < 18446744073709551616 →
-        Stays j last depth of-ram-f (record { going = true; number = 0; last = f .clock; depth = depth })
+        Stays j last depth of-ram-f (record { going = true; number = 0; last = f .clock; depth = depth; ram = 1 })
     unfolding restOf
     ram-goes e h k =
         record {
           is = λ s c. goes-is j _ _ _ s c _ early (sym own-is ∙ e) refl refl;
           fine = λ _. fine-ram _ _ _ _ h k (first-nil _ _ (sym own-is ∙ e) .0);
+          quiet = λ _ q. absurd (omega arith);
           same = refl;
         }
 
@@ -239,14 +246,14 @@ module _ (log : List ℕ) (at kind j last depth : ℕ) (s : List ℕ) (h : Place
   pub turn-ram : {r : Turn} (f : Fields) → kind ≡ 5 → OfRam log at f → Stays j last depth (ram (f .clock) (f .place) (f .value) (f .dir)) r → Turns j last depth s (recordAt log at kind) s r
   turn-ram f e o t =
       rw (ram-size kind e, e, o .is)
-      (record { is = λ c. t .is s c; fine = t .fine; kept = λ e. refl; places = rw (t .same) h; room = refl })
+      (record { is = λ c. t .is s c; fine = t .fine; quiet = t .quiet; kept = λ e. refl; places = rw (t .same) h; room = refl })
 
   other-is : (b : List ℕ) → (kind ≡ 4 → ⊥) → (kind ≡ 5 → ⊥) → recordOf kind b ≡ other kind (drop 4 b)
   unfolding recordOf
   other-is b k l = rw (ne-eqb kind 4 k, ne-eqb kind 5 l)
 
-  pub turn-other : (kind ≡ 4 → ⊥) → (kind ≡ 5 → ⊥) → Turns j last depth s (recordAt log at kind) s (record { going = true; number = 0; last = last; depth = depth })
-  unfolding restOf verdictOf
+  pub turn-other : (kind ≡ 4 → ⊥) → (kind ≡ 5 → ⊥) → Turns j last depth s (recordAt log at kind) s (record { going = true; number = 0; last = last; depth = depth; ram = 0 })
+  unfolding restOf verdictOf ramIn
   turn-other k l =
       rw (other-is _ k l)
-      (record { is = λ c. refl; fine = λ e. of-other; kept = λ e. refl; places = h; room = refl })
+      (record { is = λ c. refl; fine = λ e. of-other; quiet = λ e q. refl; kept = λ e. refl; places = h; room = refl })

@@ -8,13 +8,15 @@ use borrow.Author.Tests.{eqb-true}
 use lib.ListN.{length, drop}
 use lib.Dec.{eqb}
 use Rattle.machine.specs.Ram.{Cells}
-use Rattle.machine.specs.Records.{Record}
+use Rattle.machine.specs.Records.{Record, other, stack, ram}
+use Rattle.choices.specs.Choice.{firstOf}
+use Rattle.choices.proofs.Choice.{first-nil}
 use Rattle.replay_scan.specs.declared.record.Head.{Head}
 use Rattle.replay_scan.specs.declared.scan.Turn.{Turn}
 use Rattle.replay.specs.Replay.{Built, built, goes}
 use Rattle.replay_scan.specs.RecordView.{recordAt, headed, Headed}
 use Rattle.replay_scan.specs.Walk.{Walk}
-use Rattle.replay_scan.specs.Scan.{restOf, Rests, Fine, Fines, Ends, at-end, at-break, at-stop, at-fault, Scanned}
+use Rattle.replay_scan.specs.Scan.{restOf, Rests, Fine, Fines, ramIn, Ends, at-end, at-break, at-stop, at-fault, Scanned}
 use Rattle.replay_scan.specs.ScanView.{verdictOf, Turns}
 use Rattle.replay.proofs.Verdicts.{All}
 use Rattle.replay_scan.proofs.Walks.{walk-append}
@@ -32,18 +34,27 @@ pub rests-append : {j : ℕ} {b c d : Built} {rs : List Record} (r : Record) →
 rests-append r Rests.none e = Rests.more e Rests.none
 rests-append r (Rests.more f h) e = Rests.more f (rests-append r h e)
 
--- a scan of the log up to a place, with the stack slice s before and `words` now
-pub record Going (log s : List ℕ) (j at last depth : ℕ) (words : List ℕ) : Type 0 where
+ram-append : (rs : List Record) (r : Record) → ramIn (rs ++ (r ∷ [])) ≡ ramIn rs + ramIn (r ∷ [])
+unfolding ramIn
+ram-append [] r = omega arith
+ram-append (other k s ∷ rs) r = ram-append rs r
+ram-append (stack t q d v ∷ rs) r = ram-append rs r
+ram-append (ram t a v d ∷ rs) r = omega (arith, ram-append rs r)
+
+-- a scan of the log up to a place, with the stack slice s before and `words` now; no record of RAM so far where `some` is 0
+pub record Going (log s : List ℕ) (j at last depth some : ℕ) (words : List ℕ) : Type 0 where
   pub records : List Record
   pub walk : Walk log 0 at records
   pub fine : Fines records
+  pub quiet : some ≡ 0 → ramIn records ≡ 0
   pub rests : (c : Cells) → Rests j (built 0 16 s c) records (built last depth words c)
 
-pub going-start : (log s : List ℕ) (j : ℕ) → Going log s j 0 0 16 s
-going-start log s j = record { records = []; walk = Walk.none; fine = Fines.none; rests = λ c. Rests.none }
+pub going-start : (log s : List ℕ) (j : ℕ) → Going log s j 0 0 16 0 s
+unfolding ramIn
+going-start log s j = record { records = []; walk = Walk.none; fine = Fines.none; quiet = λ e. refl; rests = λ c. Rests.none }
 
-module _ {log s words : List ℕ} {j at last depth : ℕ} (h : Head) (go : Going log s j at last depth words) (head : Headed log at h) (inside : at ≤ length log) where
-  pub scan-ends : h .state < 2 → Scanned log s j words (record { number = 40 * h .state; end = at; depth = depth })
+module _ {log s words : List ℕ} {j at last depth some : ℕ} (h : Head) (go : Going log s j at last depth some words) (head : Headed log at h) (inside : at ≤ length log) where
+  pub scan-ends : h .state < 2 → Scanned log s j words (record { number = 40 * h .state; end = at; depth = depth; ram = some })
   unfolding headed
   scan-ends l =
       record {
@@ -52,6 +63,7 @@ module _ {log s words : List ℕ} {j at last depth : ℕ} (h : Head) (go : Going
         walk = go .walk;
         inside = inside;
         fine = go .fine;
+        quiet = go .quiet;
         rests = go .rests;
         ends = λ c. why c (h .state) refl;
       }
@@ -62,7 +74,7 @@ module _ {log s words : List ℕ} {j at last depth : ℕ} (h : Head) (go : Going
       why c (suc (suc z)) e = absurd (omega arith)
 
   module _ {after : List ℕ} {r : Turn} (two : 2 ≤ h .state) (turns : Turns j last depth words (recordAt log at (h .kind)) after r) where
-    pub scan-off : r .going ≡ false → Scanned log s j after (record { number = r .number; end = at; depth = depth })
+    pub scan-off : r .going ≡ false → Scanned log s j after (record { number = r .number; end = at; depth = depth; ram = some })
     unfolding verdictOf
     scan-off e =
         rw (turns .kept e)
@@ -72,6 +84,7 @@ module _ {log s words : List ℕ} {j at last depth : ℕ} (h : Head) (go : Going
           walk = go .walk;
           inside = inside;
           fine = go .fine;
+          quiet = go .quiet;
           rests = go .rests;
           ends = λ c. why c (eqb (r .number) 0) refl;
         })
@@ -80,13 +93,14 @@ module _ {log s words : List ℕ} {j at last depth : ℕ} (h : Head) (go : Going
         why c true q = rw (eqb-true (r .number) 0 q) (at-stop (head-record log at h head two) (turns .is c ∙ rw (e, q)))
         why c false q = at-fault {n = r .number} (head-record log at h head two) (turns .is c ∙ rw (e, q))
 
-    pub scan-goes : r .going ≡ true → Going log s j (at + h .size + 2) (r .last) (r .depth) after
+    pub scan-goes : r .going ≡ true → (next : ℕ) → next ≡ firstOf some (r .ram) → Going log s j (at + h .size + 2) (r .last) (r .depth) next after
     unfolding verdictOf
-    scan-goes e =
+    scan-goes e next f =
         let n : at + (h .size + 2) ≡ at + h .size + 2 = omega arith in
         record {
           records = go .records ++ (recordAt log at (h .kind) ∷ []);
           walk = rw (sym n) (walk-append (h .size + 2) (go .walk) (head-record log at h head two) (omega arith));
           fine = fines-append (go .fine) (turns .fine e);
+          quiet = λ q. let z = first-nil some (r .ram) (sym f ∙ q) in ram-append (go .records) _ ∙ rw (go .quiet (z .0), turns .quiet e (z .1));
           rests = λ c. rests-append _ (go .rests c) (turns .is c ∙ rw e);
         }

@@ -1,9 +1,9 @@
 -- What the code reads of a log s, at a place.
-use Prim.Native.Nat.{ℕ, _+_, _<_, _≤_}
+use Prim.Native.Nat.{ℕ, _+_, _/_, _%_, _<_, _≤_}
 use mathlib.Core.Path.{_≡_}
 use mathlib.Core.List.{List}
 use lib.ListN.{length, take, drop}
-use lib.Dec.{eqb}
+use lib.Dec.{eqb, ltb}
 use Rattle.choices.specs.Choice.{cond}
 use Rattle.machine.specs.Bytes.{numberOf}
 use Rattle.machine.specs.Records.{Record, stack, ram, lengthOf, Parsed, ended, broken, found, recordOf, parse}
@@ -17,6 +17,19 @@ numberAt s at n = numberOf (take n (drop at s))
 pub record Number (s : List ℕ) (at n bound r : ℕ) : Type 0 where
   pub is : r ≡ numberAt s at n
   pub small : r < bound
+
+-- length and kind, two bytes each, as one number
+pub record Framed (s : List ℕ) (at r : ℕ) : Type 0 where
+  pub size : r % 65536 ≡ numberAt s at 2
+  pub kind : r / 65536 ≡ numberAt s (at + 2) 2
+
+-- the head of the end, state 0, or of what is no whole record, state 1
+abbrev pub noHead : ℕ → Head
+noHead state = record { state = state; kind = 0; size = 0 }
+
+-- that of a record with `left` bytes from its start on
+unfoldable pub wholeHead : ℕ → ℕ → ℕ → Head
+wholeHead left kind size = cond (ltb left (size + 2)) (noHead 1) (record { state = 2; kind = kind; size = size })
 
 -- what a head says of the bytes s at whose start it stands
 unfoldable pub headed : Head → List ℕ → Parsed

@@ -1,7 +1,7 @@
 -- Replay without RAM's words: frames, clocks, fields and the stack. Of a RAM record only what it says by itself is looked at.
 use mathlib.Core.Path.{_≡_}
 use mathlib.Core.List.{List, [], _∷_}
-use Prim.Native.Nat.{ℕ, _<_, _≤_}
+use Prim.Native.Nat.{ℕ, suc, _<_, _≤_}
 use lib.ListN.{length, drop}
 use Rattle.choices.specs.Choice.{firstOf, aboveOf}
 use Rattle.machine.specs.Words.{p}
@@ -32,6 +32,13 @@ pub data Fines : List Record → Type 0 where
   none : Fines []
   more : {r : Record} {rs : List Record} → Fine r → Fines rs → Fines (r ∷ rs)
 
+-- how many records are of RAM
+unfoldable pub ramIn : List Record → ℕ
+ramIn [] = 0
+ramIn (other k s ∷ rs) = ramIn rs
+ramIn (stack t q d v ∷ rs) = ramIn rs
+ramIn (ram t a v d ∷ rs) = suc (ramIn rs)
+
 -- why it ends at the bytes t, and its number then
 pub data Ends (j : ℕ) (b : Built) (t : List ℕ) : ℕ → Type 0 where
   at-end : parse t ≡ ended → Ends j b t 0
@@ -48,4 +55,5 @@ pub record Scanned (log s : List ℕ) (j : ℕ) (after : List ℕ) (r : Scan) : 
   pub inside : r .end ≤ length log
   pub fine : Fines records
   pub rests : (c : Cells) → Rests j (built 0 16 s c) records (built last (r .depth) after c)
+  pub quiet : r .ram ≡ 0 → ramIn records ≡ 0
   pub ends : (c : Cells) → Ends j (built last (r .depth) after c) (drop (r .end) log) (r .number)

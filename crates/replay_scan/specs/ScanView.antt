@@ -2,7 +2,7 @@
 use Prim.Native.Nat.{ℕ, _+_, _<_, _≤_}
 use mathlib.Core.Path.{_≡_}
 use mathlib.Core.Bool.{true, false}
-use mathlib.Core.List.{List}
+use mathlib.Core.List.{List, [], _∷_}
 use lib.ListN.{length}
 use lib.Dec.{eqb}
 use Rattle.choices.specs.Choice.{cond}
@@ -11,7 +11,7 @@ use Rattle.machine.specs.Records.{Record}
 use Rattle.replay_scan.specs.declared.record.Fields.{Fields}
 use Rattle.replay_scan.specs.declared.scan.Turn.{Turn}
 use Rattle.replay.specs.Replay.{built, stackFault, stackTurn, Verdict, stops, wrong, goes}
-use Rattle.replay_scan.specs.Scan.{restOf, Fine}
+use Rattle.replay_scan.specs.Scan.{restOf, Fine, ramIn}
 
 -- the depth's places are in the stack slice
 pub record Places (s : List ℕ) (depth : ℕ) : Type 0 where
@@ -48,6 +48,7 @@ pub record Off (n d : ℕ) (r : Turn) : Type 0 where
 pub record Turns (j last depth : ℕ) (s : List ℕ) (x : Record) (after : List ℕ) (r : Turn) : Type 0 where
   pub is : (c : Cells) → restOf j (built last depth s c) x ≡ verdictOf r after c
   pub fine : r .going ≡ true → Fine x
+  pub quiet : r .going ≡ true → r .ram ≡ 0 → ramIn (x ∷ []) ≡ 0
   pub kept : r .going ≡ false → after ≡ s
   pub places : Places after (r .depth)
   pub room : length after ≡ length s
@@ -56,4 +57,5 @@ pub record Turns (j last depth : ℕ) (s : List ℕ) (x : Record) (after : List 
 pub record Stays (j last depth : ℕ) (x : Record) (r : Turn) : Type 0 where
   pub is : (s : List ℕ) (c : Cells) → restOf j (built last depth s c) x ≡ verdictOf r s c
   pub fine : r .going ≡ true → Fine x
+  pub quiet : r .going ≡ true → r .ram ≡ 0 → ramIn (x ∷ []) ≡ 0
   pub same : r .depth ≡ depth

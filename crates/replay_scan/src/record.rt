@@ -3,7 +3,7 @@ ghost use mathlib.Core.Path.{_≡_};
 ghost use Prim.Native.Nat.{_+_, _≤_, _<_};
 ghost use lib.ListN.{length, getD};
 ghost use Rattle.machine.specs.Records.{lengthOf};
-ghost use Rattle.replay_scan.specs.RecordView.{Number, Headed, OfStack, OfRam};
+ghost use Rattle.replay_scan.specs.RecordView.{Number, Framed, noHead, wholeHead, Headed, OfStack, OfRam};
 
 // What stands at a place: 0 the end, 1 no whole record, 2 a record of this kind, of `size` bytes behind its length field.
 pub struct Head {
@@ -19,6 +19,11 @@ pub struct Fields {
     pub value: u64,
     pub dir: u64,
 }
+
+// Length 23 and kind 4 or 5, as one number of four bytes.
+const STACK_FRAME: u64 = 262167;
+
+const RAM_FRAME: u64 = 327703;
 
 // ---- numbers, low byte first
 
@@ -78,7 +83,7 @@ fn length_of(kind: u64) -> usize
 }
 
 fn none(state: u64) -> Head
-    ensures { λ r. ⌜ (r .state ≡ state) × (r .kind ≡ 0) × (r .size ≡ 0) ⌝ }
+    ensures { λ r. ⌜ r ≡ noHead state ⌝ }
 {
     Head {
         state: state,
@@ -87,7 +92,32 @@ fn none(state: u64) -> Head
     }
 }
 
-// The frame of what stands at a place.
+// Length and kind of what stands at a place, as one number.
+fn frame_at(log: &[u8], at: usize) -> u64
+    requires { ⌜ at + 4 ≤ length (now log) ⌝ }
+    ensures { λ r. ⌜ Framed (now (log .entry)) at r ⌝ }
+{
+    let size = get2(log, at);
+    let kind = get2(log, at + 2);
+    size + 65536 * kind
+}
+
+// A record of this kind and size, if it is whole in the bytes that are left.
+fn whole(left: usize, kind: u64, size: usize) -> Head
+    requires { ⌜ size < 65536 ⌝ }
+    ensures { λ r. ⌜ r ≡ wholeHead left kind size ⌝ }
+{
+    if left < size + 2 {
+        return none(1);
+    }
+    Head {
+        state: 2,
+        kind: kind,
+        size: size,
+    }
+}
+
+// The frame of what stands at a place. Kinds 4 and 5 come first and by constants, so that a walk need not wait for a length that it loads.
 pub fn head_at(log: &[u8], at: usize) -> Head
     requires { ⌜ at ≤ length (now log) ⌝ }
     ensures { λ r. ⌜ Headed (now (log .entry)) at r ⌝ }
@@ -99,8 +129,15 @@ pub fn head_at(log: &[u8], at: usize) -> Head
     if left < 4 {
         return none(1);
     }
-    let size = get2(log, at) as usize;
-    let kind = get2(log, at + 2);
+    let frame = frame_at(log, at);
+    if frame == STACK_FRAME {
+        return whole(left, 4, 23);
+    }
+    if frame == RAM_FRAME {
+        return whole(left, 5, 23);
+    }
+    let size = (frame % 65536) as usize;
+    let kind = frame / 65536;
     let want = length_of(kind);
     if want == 0 {
         return none(1);
@@ -108,14 +145,7 @@ pub fn head_at(log: &[u8], at: usize) -> Head
     if size != want {
         return none(1);
     }
-    if left < size + 2 {
-        return none(1);
-    }
-    Head {
-        state: 2,
-        kind: kind,
-        size: size,
-    }
+    whole(left, kind, size)
 }
 
 pub fn stack_fields(log: &[u8], at: usize) -> Fields

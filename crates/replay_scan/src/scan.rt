@@ -16,20 +16,22 @@ use choices::numbers::above;
 use choices::numbers::differ;
 use choices::numbers::first;
 
-// A scan's number, the place where it ended, and the depth there.
+// A scan's number, the place where it ended, the depth there, and 0 where no record before it is of RAM.
 pub struct Scan {
     pub number: u64,
     pub end: usize,
     pub depth: usize,
+    pub ram: u64,
 }
 
-// What a record does: it goes on, with the last clock and the depth behind it; or its fault's number ends the scan, or,
-// where that is 0, its clock.
+// What a record does: it goes on, with the last clock and the depth behind it, and 1 if it is of RAM; or its fault's number ends
+// the scan, or, where that is 0, its clock.
 pub struct Turn {
     pub going: bool,
     pub number: u64,
     pub last: u64,
     pub depth: usize,
+    pub ram: u64,
 }
 
 // 40: a direction above 1, or one of two numbers that is no word.
@@ -88,6 +90,7 @@ fn off(number: u64, last: u64, depth: usize) -> Turn
         number: number,
         last: last,
         depth: depth,
+        ram: 0,
     }
 }
 
@@ -107,6 +110,7 @@ fn stack_turn(words: &mut [u64], f: Fields, clock: u64, last: u64, depth: usize)
         number: 0,
         last: f.clock,
         depth: stack_move(words, depth, f),
+        ram: 0,
     }
 }
 
@@ -125,6 +129,7 @@ fn ram_turn(f: Fields, clock: u64, last: u64, depth: usize) -> Turn
         number: 0,
         last: f.clock,
         depth: depth,
+        ram: 1,
     }
 }
 
@@ -154,6 +159,7 @@ fn record_turn(
         number: 0,
         last: last,
         depth: depth,
+        ram: 0,
     }
 }
 
@@ -164,6 +170,7 @@ pub fn scan_log(log: &[u8], words: &mut [u64], clock: u64) -> Scan
     let mut at = 0;
     let mut last: u64 = 0;
     let mut depth = 16;
+    let mut ram = 0;
     loop {
         let h = head_at(log, at);
         if h.state < 2 {
@@ -171,18 +178,22 @@ pub fn scan_log(log: &[u8], words: &mut [u64], clock: u64) -> Scan
                 number: 40 * h.state,
                 end: at,
                 depth: depth,
+                ram: ram,
             };
         }
+        let next = at + h.size + 2;
         let t = record_turn(log, at, h.kind, words, clock, last, depth);
         if !t.going {
             return Scan {
                 number: t.number,
                 end: at,
                 depth: depth,
+                ram: ram,
             };
         }
         last = t.last;
         depth = t.depth;
-        at = at + h.size + 2;
+        ram = first(ram, t.ram);
+        at = next;
     }
 }

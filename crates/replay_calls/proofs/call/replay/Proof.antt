@@ -1,7 +1,7 @@
 -- `replay_calls::call::replay` meets its contract. Assumes nothing.
-use Prim.Native.Nat.{_-_}
-use borrow.Author.Needs.{needs}
 use Rattle.replay_calls.proofs.Deciding.{call-refused, opens, scans, call-wrong, call-right}
+use Rattle.replay_calls.proofs.QuietLaws.{scan-quiet}
+use borrow.Author.Needs.{needs}
 use Rattle.replay_calls.proofs.call.replay.Statement.{statement}
 use Rattle.replay_calls.proofs.call.replay.Tie as tie
 
@@ -21,14 +21,15 @@ same-length-3 : tie.Need-same-length-3
 same-length-3 c = search needs
 
 returns : tie.Need-returns
-returns c = call-refused _ _ _ _ _ _ (c .before .before .check-replay .ensures) (c .before .if1 .taken) (c .refused .ensures)
+returns c =
+    call-refused _ _ _ _ _ _ (c .before .before .check-replay .ensures) (c .before .if1 .taken) (c .refused .ensures)
 
 scan-log-requires : tie.Need-scan-log-requires
 scan-log-requires c κs = search needs
 
 by-table-requires : tie.Need-by-table-requires
 by-table-requires c κs =
-    scans (c .before .before .before .before .scan-log .ensures) (opens _ _ _ _ (c .before .before .before .before .before .before .before .check-replay .ensures) (c .before .before .before .before .before .before .if1 .left))
+    (scans (c .before .before .before .before .scan-log .ensures) (opens _ _ _ _ (c .before .before .before .before .before .before .before .check-replay .ensures) (c .before .before .before .before .before .before .if1 .left)), scan-quiet (c .before .before .before .before .scan-log .ensures))
 
 clear-requires : tie.Need-clear-requires
 clear-requires c κs = search needs
