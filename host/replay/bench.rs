@@ -1,10 +1,12 @@
 //! Nanoseconds a record, on logs of 16 MiB, beside the plain Rust replay with a hash map (`compare/model/replay.rs`), which sorts
-//! its cells at the end, in the same run; a ratio below 1 says that the library is faster. The best turn of each counts.
+//! its cells at the end, in the same run; a ratio below 1 says that it is faster than that. The best turn of each counts. Measured
+//! are the library, an earlier one where BEFORE names its folder, and plain Rust that compares words with p byte by byte.
 use crate::lent::Lent;
-use host::model::replay::{replay as plain, Replay};
+use host::field::P;
+use host::model::replay::{replay as plain, replay_by_bytes, Replay};
 use host::random::Random;
 use kixombu::exports::{replay, replayed, LONGEST};
-use kixombu::Record;
+use kixombu::{records as records_of, Record};
 use std::io::Write;
 use std::time::{Duration, Instant};
 
@@ -13,8 +15,9 @@ const MOST: u64 = LONGEST as u64 / 25;
 /// Calls are repeated for so long, or so often: as on a busy machine many are disturbed.
 const LONG: Duration = Duration::from_secs(4);
 const TURNS: usize = 60;
-/// What is aimed at: a ratio, where a case has one, and the longest call.
-const RATIO: f64 = 2.0;
+/// What is aimed at: the library's ratio, where a case has one, and its longest call.
+const STACK: f64 = 1.3;
+const RAM: f64 = 2.0;
 const WORST: Duration = Duration::from_secs(10);
 
 struct Case {
@@ -25,38 +28,57 @@ struct Case {
     /// What is lent.
     cells: usize,
     words: usize,
-    has_goal: bool,
+    goal: Option<f64>,
+}
+
+/// What is measured, the library first. The last is what the others are compared with.
+fn forms() -> Vec<(&'static str, Replay)> {
+    let before = before::REPLAY.map(|replay| ("before", replay));
+    let plain: [(&str, Replay); 2] = [("by bytes", replay_by_bytes), ("Rust", plain)];
+    [("library", replay as Replay)].into_iter().chain(before).chain(plain).collect()
 }
 
 pub fn run() {
-    println!("{:<62}{:>9}{:>12}{:>12}{:>9}{:>9}", "log", "records", "library ns", "Rust ns", "ratio", "goal");
+    let forms = forms();
+    let (times, ratios): (String, String) = forms.iter().map(|(name, _)| (format!("{name:>9} ns"), format!("{name:>9}"))).unzip();
+    // without the last, which is 1
+    let ratios = &ratios[..9 * (forms.len() - 1)];
+    println!("{:<66}{:>9}{times}   ratio:{ratios}     goal", "log", "records");
     let mut worst = (Duration::ZERO, String::new());
     for make in cases() {
         let case = make();
-        print!("{:<62}{:>9}", case.name, case.records);
+        print!("{:<66}{:>9}", case.name, case.records);
         std::io::stdout().flush().unwrap();
-        let (mut ours, mut theirs) = (Duration::MAX, Duration::MAX);
-        let began = Instant::now();
-        for _ in 0..TURNS {
-            let (by_library, by_plain) = (time(&case, replay), time(&case, plain));
-            assert!(by_library.1 == by_plain.1, "the library rebuilt something else");
-            (ours, theirs) = (ours.min(by_library.0), theirs.min(by_plain.0));
-            if began.elapsed() > LONG {
-                break;
-            }
-        }
-        let each = |time: Duration| time.as_nanos() as f64 / case.records as f64;
-        let ratio = each(ours) / each(theirs);
-        let goal = match case.has_goal {
-            true => format!("{RATIO:>9.2}{}", if ratio > RATIO { ", missed" } else { "" }),
-            false => String::new(),
-        };
-        println!("{:>12.1}{:>12.1}{ratio:>9.2}{goal}", each(ours), each(theirs));
-        worst = worst.max((ours, case.name));
+        let best = best(&case, &forms);
+        let each = |time: &Duration| time.as_nanos() as f64 / case.records as f64;
+        let rust = each(best.last().unwrap());
+        best.iter().for_each(|time| print!("{:>12.1}", each(time)));
+        print!("{:9}", "");
+        best[1..].iter().zip(&best).for_each(|(_, time)| print!("{:>9.2}", each(time) / rust));
+        let missed = |goal| if each(&best[0]) / rust > goal { ", missed" } else { "" };
+        println!("{}", case.goal.map_or(String::new(), |goal| format!("{goal:>9.1}{}", missed(goal))));
+        worst = worst.max((best[0], case.name));
     }
     let (longest, name) = worst;
     let missed = if longest > WORST { ", missed" } else { "" };
-    println!("the longest call took {:.3} s ({name}); goal {} s{missed}", longest.as_secs_f64(), WORST.as_secs());
+    println!("the library's longest call took {:.3} s ({name}); goal {} s{missed}", longest.as_secs_f64(), WORST.as_secs());
+}
+
+/// The best time of each form, in turns of all.
+fn best(case: &Case, forms: &[(&str, Replay)]) -> Vec<Duration> {
+    let mut best = vec![Duration::MAX; forms.len()];
+    let began = Instant::now();
+    for _ in 0..TURNS {
+        let turn: Vec<(Duration, Lent)> = forms.iter().map(|&(_, by)| time(case, by)).collect();
+        for ((best, (time, left)), (name, _)) in best.iter_mut().zip(&turn).zip(forms) {
+            assert!(*left == turn[0].1, "{name}: rebuilt something else than the library");
+            *best = *time.min(best);
+        }
+        if began.elapsed() > LONG {
+            break;
+        }
+    }
+    best
 }
 
 /// One call, which must succeed: its time, without that of lending, and what it left.
@@ -86,7 +108,13 @@ fn time(case: &Case, by: Replay) -> (Duration, Lent) {
 type Numbered = fn(u64) -> (u64, bool);
 
 fn cases() -> Vec<Box<dyn Fn() -> Case>> {
-    let mut cases: Vec<Box<dyn Fn() -> Case>> = vec![Box::new(stack), Box::new(hashing)];
+    let mut cases: Vec<Box<dyn Fn() -> Case>> = vec![
+        Box::new(|| stack("", 1, |word| word)),
+        Box::new(|| stack(", ten for a clock", 10, |word| word)),
+        // here each byte has to be compared
+        Box::new(|| stack(", all of them p - 1", 1, |_| P - 1)),
+        Box::new(hashing),
+    ];
     for addresses in [16, 1_000, 4_000, 100_000] {
         cases.push(Box::new(move || memory(addresses)));
     }
@@ -129,7 +157,24 @@ fn case(name: String, all: impl Iterator<Item = Record>, ram: Vec<(u64, u64)>, c
         }
         records += 1;
     }
-    Case { name, log, records, ram, cells, words, has_goal: false }
+    keeps_to_ten(&log);
+    Case { name, log, records, ram, cells, words, goal: None }
+}
+
+/// Of a clock's records at most ten are of the stack, all in one direction, and at most ten of RAM: no step records more.
+fn keeps_to_ten(log: &[u8]) {
+    let (mut last, mut stack, mut ram) = (None, vec![], 0);
+    for record in records_of(log).map(Result::unwrap) {
+        let (Record::Stack { clock, .. } | Record::Ram { clock, .. }) = record else { continue };
+        if last != Some(clock) {
+            (last, stack, ram) = (Some(clock), vec![], 0);
+        }
+        match record {
+            Record::Stack { write, .. } => stack.push(write),
+            _ => ram += 1,
+        }
+        assert!(stack.len() <= 10 && stack.iter().all(|&write| write == stack[0]) && ram <= 10, "clock {clock}");
+    }
 }
 
 /// RAM records by number: address, and whether it is written; reads find 0.
@@ -155,14 +200,15 @@ fn behind(cells: u64) -> Case {
     case(format!("distinct writes behind {cells} cells of the opening"), all, ram, (MOST + cells) as usize, 0)
 }
 
-/// Waves of a thousand writes and a thousand reads.
-fn stack() -> Case {
-    let all = (0..MOST).map(|clock| {
-        let (wave, i) = (clock / 2000, clock % 2000);
+/// Waves of a thousand writes and a thousand reads, so many records for a clock.
+fn stack(what: &str, for_a_clock: u64, value: fn(u64) -> u64) -> Case {
+    let all = (0..MOST).map(|record| {
+        let (wave, i) = (record / 2000, record % 2000);
         let (place, write) = if i < 1000 { (i, true) } else { (1999 - i, false) };
-        Record::Stack { clock: clock as u32, pointer: place + 16, write, value: wave * 1000 + place }
+        let value = value(wave * 1000 + place);
+        Record::Stack { clock: (record / for_a_clock) as u32, pointer: place + 16, write, value }
     });
-    case("stack, waves of 1,000 words".to_string(), all, vec![], 0, 1000)
+    Case { goal: Some(STACK), ..case(format!("stack, waves of 1,000 words{what}"), all, vec![], 0, 1000) }
 }
 
 /// Ten words pushed, hashed and five taken off again.
@@ -193,7 +239,7 @@ fn memory(addresses: u64) -> Case {
         Record::Ram { clock: clock as u32, address: scattered(place as u64), value: held[place], write: clock % 2 == 0 }
     });
     let made = case(format!("RAM, {addresses} addresses, writes and reads in turn"), all, vec![], addresses as usize, 0);
-    Case { has_goal: addresses <= 4_000, ..made }
+    Case { goal: (addresses <= 4_000).then_some(RAM), ..made }
 }
 
 /// Reads of so many cells of the opening, at random, behind so many writes to other addresses.
@@ -210,7 +256,7 @@ fn opening(cells: u64, writes: u64) -> Case {
         0 => format!("RAM, reads of {cells} cells of the opening"),
         _ => format!("RAM, reads of {cells} cells of the opening behind {writes} writes"),
     };
-    Case { has_goal: true, ..case(name, built.into_iter(), ram, (cells + writes) as usize, 0) }
+    Case { goal: Some(RAM), ..case(name, built.into_iter(), ram, (cells + writes) as usize, 0) }
 }
 
 fn ordered(cells: impl Iterator<Item = (u64, u64)>) -> Vec<(u64, u64)> {

@@ -1,7 +1,7 @@
 //! Damaged logs: each replayed twice between guards and held to the model.
 use crate::damage::{input, Base};
 use crate::lent::{Arena, Lent};
-use host::model::replay::replay as model;
+use host::model::replay::replay_by_bytes as model;
 use host::random::Random;
 use host::work::{Counts, Watched};
 use kixombu::exports::replay;

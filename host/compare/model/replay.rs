@@ -8,8 +8,33 @@ use std::collections::HashMap;
 /// A call in the shape of the library's: answer, log, clock, cells, addresses, values, words.
 pub type Replay = fn(&mut [u64], &[u8], u64, u64, &mut [u64], &mut [u64], &mut [u64]) -> u64;
 
-/// Gives the number, and fills the answer, if it has the length of one.
+/// Gives the number, and fills the answer, if it has the length of one. A logged number is compared with p whole.
 pub fn replay(
+    answer: &mut [u64],
+    log: &[u8],
+    clock: u64,
+    cells: u64,
+    addresses: &mut [u64],
+    values: &mut [u64],
+    words: &mut [u64],
+) -> u64 {
+    replay_by::<false>(answer, log, clock, cells, addresses, values, words)
+}
+
+/// The same, but that a logged number is compared with p byte by byte, which is how document 02 defines it.
+pub fn replay_by_bytes(
+    answer: &mut [u64],
+    log: &[u8],
+    clock: u64,
+    cells: u64,
+    addresses: &mut [u64],
+    values: &mut [u64],
+    words: &mut [u64],
+) -> u64 {
+    replay_by::<true>(answer, log, clock, cells, addresses, values, words)
+}
+
+fn replay_by<const BYTES: bool>(
     answer: &mut [u64],
     log: &[u8],
     clock: u64,
@@ -22,7 +47,7 @@ pub fn replay(
         return 1;
     }
     let built = Built::opening(log, cells, addresses, values, words)
-        .and_then(|opening| opening.read(log, clock, addresses.len(), words.len()));
+        .and_then(|opening| opening.read::<BYTES>(log, clock, addresses.len(), words.len()));
     let (number, depth, cells) = match built {
         Ok(built) => built.store(addresses, values, words),
         Err(number) => (number, 0, 0),
@@ -58,7 +83,7 @@ impl Built {
     }
 
     /// Place E, record by record.
-    fn read(mut self, log: &[u8], clock: u64, most_cells: usize, most_words: usize) -> Result<Built, u64> {
+    fn read<const BYTES: bool>(mut self, log: &[u8], clock: u64, most_cells: usize, most_words: usize) -> Result<Built, u64> {
         let mut left = log;
         while !left.is_empty() {
             let (kind, fields) = record(left).ok_or(40_u64)?;
@@ -71,14 +96,14 @@ impl Built {
                 break;
             }
             // a stack record has its direction before the value
-            let at = number(&fields[4..12]);
+            let at = word::<BYTES>(&fields[4..12]);
             let (way, value) = match kind {
-                4 => (fields[12], number(&fields[13..21])),
-                _ => (fields[20], number(&fields[12..20])),
+                4 => (fields[12], word::<BYTES>(&fields[13..21])),
+                _ => (fields[20], word::<BYTES>(&fields[12..20])),
             };
-            if way > 1 || at >= P || value >= P {
+            let (0 | 1, Some(at), Some(value)) = (way, at, value) else {
                 return Err(40);
-            }
+            };
             if time < self.last {
                 return Err(41);
             }
@@ -165,6 +190,17 @@ fn record(log: &[u8]) -> Option<(u64, &[u8])> {
         return None;
     }
     Some((kind, log.get(4..2 + expected as usize)?))
+}
+
+/// The number of eight bytes, if it is below p. By bytes, the first from the top that is not p's decides.
+pub(super) fn word<const BYTES: bool>(bytes: &[u8]) -> Option<u64> {
+    let is_below = if BYTES {
+        let differing = bytes.iter().zip(P.to_le_bytes()).rev().find(|(&byte, of_p)| byte != *of_p);
+        differing.is_some_and(|(&byte, of_p)| byte < of_p)
+    } else {
+        number(bytes) < P
+    };
+    is_below.then(|| number(bytes))
 }
 
 fn number(bytes: &[u8]) -> u64 {

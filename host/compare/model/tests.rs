@@ -1,9 +1,10 @@
-//! The order of RAM's cells, on small machines.
-use super::replay::replay;
+//! The order of RAM's cells, on small machines; and replay.
+use super::replay::{replay, replay_by_bytes, word};
 use super::MODEL;
 use crate::field::P;
 use crate::instructions::named;
 use crate::lent::{answer, register, Machine, STEP_BYTES};
+use crate::random::Random;
 use kixombu::{bytes_of, Record};
 
 /// What unused cells hold: no word, and it stays.
@@ -141,4 +142,44 @@ fn replay_gives_cells_in_order() {
         assert_eq!(replay(&mut answer, &log, u64::MAX, 2, &mut addresses[..5], &mut values[..5], &mut []), 44);
         assert_eq!((answer, addresses, values), ([44, 0, 0], opening.0, opening.1));
     }
+}
+
+/// A number whose bytes are p's or next to them, or anything.
+fn around_p(random: &mut Random) -> u64 {
+    let mut bytes = P.to_le_bytes();
+    for byte in &mut bytes {
+        match random.below(8) {
+            0 => *byte = byte.wrapping_add(1),
+            1 => *byte = byte.wrapping_sub(1),
+            2 => *byte = random.next() as u8,
+            _ => {}
+        }
+    }
+    u64::from_le_bytes(bytes)
+}
+
+#[test]
+fn words_are_compared_whole_or_by_bytes() {
+    let mut random = Random::new(1);
+    let edges = [0, 1, P - 2, P - 1, P, P + 1, u64::MAX, P - (1 << 32), P ^ 1, u64::MAX << 32, P ^ 1 << 63];
+    let all = edges.into_iter().chain((0..100_000).map(|_| around_p(&mut random)));
+    let mut met = [0; 2];
+    for number in all {
+        let bytes = number.to_le_bytes();
+        let expected = (number < P).then_some(number);
+        assert_eq!((word::<false>(&bytes), word::<true>(&bytes)), (expected, expected), "{number:x}");
+        met[usize::from(number < P)] += 1;
+        let logs = [
+            bytes_of(&[Record::Ram { clock: 0, address: number, value: 0, write: false }]),
+            bytes_of(&[Record::Ram { clock: 0, address: 0, value: number, write: true }]),
+            bytes_of(&[Record::Stack { clock: 0, pointer: 16, value: number, write: true }]),
+        ];
+        for log in logs {
+            let expected = if number < P { 0 } else { 40 };
+            for by in [replay, replay_by_bytes] {
+                assert_eq!(by(&mut [0; 3], &log, 1, 0, &mut [0], &mut [0], &mut [0]), expected, "{number:x}");
+            }
+        }
+    }
+    assert!(met[0] > 1_000 && met[1] > 1_000, "{met:?}");
 }
