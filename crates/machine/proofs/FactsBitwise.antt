@@ -21,7 +21,7 @@ use Rattle.machine.specs.Sound.{Sound, Honest}
 use Rattle.machine.proofs.Words.{words-getD}
 use Rattle.machine.proofs.Seen.{sees}
 use Rattle.machine.proofs.Acts.{Acts, acting, acts-unless, acts-u32}
-use Rattle.machine.proofs.Does.{Does, records}
+use Rattle.machine.proofs.Does.{Weights, Does, records}
 use Rattle.machine.proofs.FactsArithmetic.{said-word}
 
 -- ---- what is made of binary digits is small
@@ -63,16 +63,16 @@ div-mod-word w h = rw (le-ltb (st w 0) (2 ^ 32) h)
 
 -- ---- the instructions
 
-module _ (m : Machine) (s : Sound m) (here : m .state .pointer < length (m .code .opcodes)) where
+module _ (per : Weights) (m : Machine) (s : Sound m) (here : m .state .pointer < length (m .code .opcodes)) where
   low : (i : ℕ) → st (top m) i < p
   low i = words-getD _ (sees m s)
 
   one : {o l r : ℕ} → Honest (ram m) (u32 o l r ∷ [])
   one = Honest.u32s Honest.none
 
-  pub split-does : Acts (Does m 1 0 22) (splitOf (top m))
+  pub split-does : Acts (Does per m 1 0 (per .ofU32 + 0)) (splitOf (top m))
   unfolding splitOf
-  split-does = acting (records m s here 1 1 0 (more high (more rest none)) one refl (omega arith) refl)
+  split-does = acting (records per m s here 1 1 0 (more high (more rest none)) one refl (omega arith) refl)
     where
       high : st (top m) 0 / 2 ^ 32 < p
       high = omega (arith, low 0)
@@ -80,48 +80,48 @@ module _ (m : Machine) (s : Sound m) (here : m .state .pointer < length (m .code
       rest : st (top m) 0 % 2 ^ 32 < p
       rest = omega (arith, low 0)
 
-  pub lt-does : Acts (Does m 0 1 22) (ltOf (top m))
+  pub lt-does : Acts (Does per m 0 1 (per .ofU32 + 0)) (ltOf (top m))
   unfolding ltOf
   lt-does =
       acts-u32 (st (top m) 0) (λ _. acts-u32 (st (top m) 1)
-      (λ _. acting (records m s here 2 0 1 (more (said-word (ltb (st (top m) 0) (st (top m) 1))) none) one refl (omega arith) refl)))
+      (λ _. acting (records per m s here 2 0 1 (more (said-word (ltb (st (top m) 0) (st (top m) 1))) none) one refl (omega arith) refl)))
 
-  pub and-does : Acts (Does m 0 1 22) (andOf (top m))
+  pub and-does : Acts (Does per m 0 1 (per .ofU32 + 0)) (andOf (top m))
   unfolding andOf
   and-does =
       acts-u32 (st (top m) 0) (λ _. acts-u32 (st (top m) 1)
-      (λ _. acting (records m s here 2 0 1 (more both none) one refl (omega arith) refl)))
+      (λ _. acting (records per m s here 2 0 1 (more both none) one refl (omega arith) refl)))
     where
       both : bothOf 32 (st (top m) 0) (st (top m) 1) < p
       both = omega (arith, low 0, both-small 32 (st (top m) 0) (st (top m) 1))
 
-  pub xor-does : Acts (Does m 0 1 22) (xorOf (top m))
+  pub xor-does : Acts (Does per m 0 1 (per .ofU32 + 0)) (xorOf (top m))
   unfolding xorOf
   xor-does =
       acts-u32 (st (top m) 0) (λ _. acts-u32 (st (top m) 1)
-      (λ _. acting (records m s here 2 0 1 (more either none) one refl (omega arith) refl)))
+      (λ _. acting (records per m s here 2 0 1 (more either none) one refl (omega arith) refl)))
     where
       either : eitherOf 32 (st (top m) 0) (st (top m) 1) < p
       either = omega (arith, either-small 32 (st (top m) 0) (st (top m) 1))
 
-  pub log-2-floor-does : Acts (Does m 0 0 22) (log2FloorOf (top m))
+  pub log-2-floor-does : Acts (Does per m 0 0 (per .ofU32 + 0)) (log2FloorOf (top m))
   unfolding log2FloorOf
   log-2-floor-does =
       acts-u32 (st (top m) 0) (λ _. acts-unless (eqb (st (top m) 0) 0) _
-      (λ _. acting (records m s here 1 0 0 (more highest none) one refl (omega arith) refl)))
+      (λ _. acting (records per m s here 1 0 0 (more highest none) one refl (omega arith) refl)))
     where
       highest : highestOf 31 (st (top m) 0) < p
       highest = omega (arith, highest-small 31 (st (top m) 0))
 
-  pub pow-does : Acts (Does m 0 1 22) (powOf (top m))
+  pub pow-does : Acts (Does per m 0 1 (per .ofU32 + 0)) (powOf (top m))
   unfolding powOf
-  pow-does = acts-u32 (st (top m) 1) (λ _. acting (records m s here 2 0 1 (more (below _) none) one refl (omega arith) refl))
+  pow-does = acts-u32 (st (top m) 1) (λ _. acting (records per m s here 2 0 1 (more (below _) none) one refl (omega arith) refl))
 
-  pub div-mod-does : Acts (Does m 0 0 44) (divModOf (top m))
+  pub div-mod-does : Acts (Does per m 0 0 (per .ofU32 + (per .ofU32 + 0))) (divModOf (top m))
   unfolding divModOf
   div-mod-does =
       acts-u32 (st (top m) 0) (λ _. acts-u32 (st (top m) 1) (λ _. acts-unless (eqb (st (top m) 1) 0) _
-      (λ _. acting (records m s here 2 0 0 (more quotient (more rest none)) (Honest.u32s (Honest.u32s Honest.none)) refl (omega arith) refl))))
+      (λ _. acting (records per m s here 2 0 0 (more quotient (more rest none)) (Honest.u32s (Honest.u32s Honest.none)) refl (omega arith) refl))))
     where
       quotient : st (top m) 0 / st (top m) 1 < p
       quotient = omega (arith, low 0, div-le-self (st (top m) 0) (st (top m) 1))
@@ -129,9 +129,9 @@ module _ (m : Machine) (s : Sound m) (here : m .state .pointer < length (m .code
       rest : st (top m) 0 % st (top m) 1 < p
       rest = omega (arith, low 0, mod-le (st (top m) 0) (st (top m) 1))
 
-  pub pop-count-does : Acts (Does m 0 0 22) (popCountOf (top m))
+  pub pop-count-does : Acts (Does per m 0 0 (per .ofU32 + 0)) (popCountOf (top m))
   unfolding popCountOf
-  pop-count-does = acts-u32 (st (top m) 0) (λ _. acting (records m s here 1 0 0 (more ones none) one refl (omega arith) refl))
+  pop-count-does = acts-u32 (st (top m) 0) (λ _. acting (records per m s here 1 0 0 (more ones none) one refl (omega arith) refl))
     where
       ones : onesOf 32 (st (top m) 0) < p
       ones = omega (arith, ones-small 32 (st (top m) 0))

@@ -17,7 +17,7 @@ use Rattle.machine.specs.Sound.{Sound, Honest, HonestJump}
 use Rattle.machine.proofs.Words.{words-getD}
 use Rattle.machine.proofs.Rows.{size-small}
 use Rattle.machine.proofs.Acts.{Acts, acting, refusing, dropping, acts-cond}
-use Rattle.machine.proofs.Does.{Does, near, onward-word, puts-does}
+use Rattle.machine.proofs.Does.{Weights, Does, near, onward-word, puts-does}
 
 -- an entry of the jump stack is of words
 data JumpWords : JumpTop → Type 0 where
@@ -32,8 +32,8 @@ jump-words m s = go (ltb 0 (m .state .jumps))
     go true = an-entry (words-getD (m .state .jumps - 1) (s .origins .words)) (words-getD (m .state .jumps - 1) (s .destinations .words))
     go false = no-entry
 
-module _ (m : Machine) (s : Sound m) (here : m .state .pointer < length (m .code .opcodes)) where
-  goes-does : {next : Next} {jump : JumpChange} (n : ℕ) → n ≤ 16 → pointerAfter m next < p → HonestJump jump → Does m 0 n 0 (goes n next jump)
+module _ (per : Weights) (m : Machine) (s : Sound m) (here : m .state .pointer < length (m .code .opcodes)) where
+  goes-does : {next : Next} {jump : JumpChange} (n : ℕ) → n ≤ 16 → pointerAfter m next < p → HonestJump jump → Does per m 0 n 0 (goes n next jump)
   goes-does n h k j = record {
     own = record { pops = h; change = omega arith; words = none; calls = Honest.none; sizes = refl };
     rest = record {
@@ -46,15 +46,15 @@ module _ (m : Machine) (s : Sound m) (here : m .state .pointer < length (m .code
     };
   }
 
-  pub halt-does : Acts (Does m 0 0 0) haltOf
+  pub halt-does : Acts (Does per m 0 0 0) haltOf
   unfolding haltOf
-  halt-does = acting (puts-does m s here 0 0 0 none (omega arith) refl)
+  halt-does = acting (puts-does per m s here 0 0 0 none (omega arith) refl)
 
-  pub nop-does : Acts (Does m 0 0 0) nopOf
+  pub nop-does : Acts (Does per m 0 0 0) nopOf
   unfolding nopOf
-  nop-does = acting (puts-does m s here 0 0 0 none (omega arith) refl)
+  nop-does = acting (puts-does per m s here 0 0 0 none (omega arith) refl)
 
-  pub skiz-does : Acts (Does m 0 1 0) (skizOf (m .code .opcodes) (m .state .pointer) (top m))
+  pub skiz-does : Acts (Does per m 0 1 0) (skizOf (m .code .opcodes) (m .state .pointer) (top m))
   unfolding skizOf
   skiz-does =
       acts-cond (eqb (st (top m) 0) 0)
@@ -64,33 +64,33 @@ module _ (m : Machine) (s : Sound m) (here : m .state .pointer < length (m .code
       over : m .state .pointer + 1 + sizeOf (getD (m .code .opcodes) (m .state .pointer + 1) 0) < p
       over = omega (arith, near m s here, size-small (getD (m .code .opcodes) (m .state .pointer + 1) 0))
 
-  pub call-does : (n : ℕ) → n < p → Acts (Does m 0 0 0) (callOf (m .state .pointer) n)
+  pub call-does : (n : ℕ) → n < p → Acts (Does per m 0 0 0) (callOf (m .state .pointer) n)
   unfolding callOf
   call-does n h = acting (goes-does {next = to n} 0 (omega arith) h (HonestJump.pushing behind h))
     where
       behind : m .state .pointer + 2 < p
       behind = omega (arith, near m s here)
 
-  return-in : {j : JumpTop} → JumpWords j → Acts (Does m 0 0 0) (returnOf j)
+  return-in : {j : JumpTop} → JumpWords j → Acts (Does per m 0 0 0) (returnOf j)
   unfolding returnOf
   return-in no-entry = refusing
   return-in (an-entry {o} h k) = acting (goes-does {next = to o} 0 (omega arith) h HonestJump.popping)
 
-  recurse-in : {j : JumpTop} → JumpWords j → Acts (Does m 0 0 0) (recurseOf j)
+  recurse-in : {j : JumpTop} → JumpWords j → Acts (Does per m 0 0 0) (recurseOf j)
   unfolding recurseOf
   recurse-in no-entry = refusing
   recurse-in (an-entry {o} {d} h k) = acting (goes-does {next = to d} 0 (omega arith) k HonestJump.staying)
 
-  pub return-does : Acts (Does m 0 0 0) (returnOf (jumpTop m))
+  pub return-does : Acts (Does per m 0 0 0) (returnOf (jumpTop m))
   return-does = return-in (jump-words m s)
 
-  pub recurse-does : Acts (Does m 0 0 0) (recurseOf (jumpTop m))
+  pub recurse-does : Acts (Does per m 0 0 0) (recurseOf (jumpTop m))
   recurse-does = recurse-in (jump-words m s)
 
-  pub recurse-or-return-does : Acts (Does m 0 0 0) (recurseOrReturnOf (top m) (jumpTop m))
+  pub recurse-or-return-does : Acts (Does per m 0 0 0) (recurseOrReturnOf (top m) (jumpTop m))
   unfolding recurseOrReturnOf
   recurse-or-return-does = acts-cond (eqb (st (top m) 5) (st (top m) 6)) (λ _. return-does) (λ _. recurse-does)
 
-  pub assert-does : Acts (Does m 0 1 0) (assertOf (top m))
+  pub assert-does : Acts (Does per m 0 1 0) (assertOf (top m))
   unfolding assertOf
-  assert-does = acts-cond (eqb (st (top m) 0) 1) (λ _. acting (puts-does m s here 1 0 1 none (omega arith) refl)) (λ _. refusing)
+  assert-does = acts-cond (eqb (st (top m) 0) 1) (λ _. acting (puts-does per m s here 1 0 1 none (omega arith) refl)) (λ _. refusing)

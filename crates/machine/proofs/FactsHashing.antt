@@ -21,7 +21,7 @@ use Rattle.machine.proofs.Words.{words-getD, words-drop, words-append, 
 use Rattle.machine.proofs.Seen.{sees, from-top-length, from-top-words, reversed-length, reversed-words, words-up-length, words-up-words, reads-up-honest}
 use Rattle.machine.proofs.Traces.{trace-length, trace-words}
 use Rattle.machine.proofs.Acts.{Acts, acting, refusing, acts-cond, acts-sponge}
-use Rattle.machine.proofs.Does.{callSizes, Does, records, puts-does, sponges}
+use Rattle.machine.proofs.Does.{Weights, weighed, Does, records, puts-does, sponges}
 
 -- a trace: six states of words
 pub record Traced (t : List ℕ) : Type 0 where
@@ -44,36 +44,36 @@ overwritten-traced : (s : Sponge) (ten : List ℕ) → SoundSponge s → length 
 overwritten-traced s ten k h b =
     traced (overwritten s ten) (simp (length-append, length-drop) (omega (arith, k .sixteen))) (words-append b (words-drop 10 (k .words)))
 
-pub reads-up-sizes : (c : Cells) (a n : ℕ) (cs : List Call) → callSizes (readsUp c a n ++ cs) ≡ 25 * n + callSizes cs
+pub reads-up-sizes : (per : Weights) (c : Cells) (a n : ℕ) (cs : List Call) → weighed per (readsUp c a n ++ cs) ≡ per .ofRam * n + weighed per cs
 unfolding readsUp
-reads-up-sizes c a zero cs = omega arith
-reads-up-sizes c a (suc n) cs = rw (reads-up-sizes c (addP a 1) n cs) (omega arith)
+reads-up-sizes per c a zero cs = omega arith
+reads-up-sizes per c a (suc n) cs = rw (reads-up-sizes per c (addP a 1) n cs) (omega arith)
 
-module _ (m : Machine) (s : Sound m) (here : m .state .pointer < length (m .code .opcodes)) where
+module _ (per : Weights) (m : Machine) (s : Sound m) (here : m .state .pointer < length (m .code .opcodes)) where
   sponged-sound : (t : List ℕ) → Traced t → SoundSponge (spongeAfter (m .state .sponge) (sponged t))
   sponged-sound t h = record { sixteen = simp length-drop (omega (arith, h .six)); words = words-drop 80 (h .words) }
 
-  hashed-does : (t : List ℕ) → Traced t → Does m 0 5 774 (hashed t)
+  hashed-does : (t : List ℕ) → Traced t → Does per m 0 5 (per .ofTip5 + 0) (hashed t)
   unfolding hashed
   hashed-does t h =
-      records m s here 10 0 5 (reversed-words 5 (words-drop 80 (h .words))) (Honest.traces (h .six) Honest.none) refl (omega arith)
+      records per m s here 10 0 5 (reversed-words 5 (words-drop 80 (h .words))) (Honest.traces (h .six) Honest.none) refl (omega arith)
       (rw (reversed-length (lastState t) 5))
 
-  pub hash-does : Acts (Does m 0 5 774) (hashOf (top m))
+  pub hash-does : Acts (Does per m 0 5 (per .ofTip5 + 0)) (hashOf (top m))
   unfolding hashOf
   hash-does = acting (hashed-does _ (fixed-traced (fromTop (top m) 0 10) (from-top-length (top m) 0 10) (from-top-words 0 10 (sees m s))))
 
-  pub sponge-init-does : Acts (Does m 0 0 4) spongeInitOf
+  pub sponge-init-does : Acts (Does per m 0 0 (per .ofReset + 0)) spongeInitOf
   unfolding spongeInitOf
   sponge-init-does =
       acting
-      (sponges m s here 0 0 0 none (Honest.resets Honest.none) refl (record { sixteen = length-replicate {A = ℕ} 16 0; words = words-zeros 16 }) (omega arith) refl)
+      (sponges per m s here 0 0 0 none (Honest.resets Honest.none) refl (record { sixteen = length-replicate {A = ℕ} 16 0; words = words-zeros 16 }) (omega arith) refl)
 
-  absorbed-does : (t : List ℕ) → Traced t → Does m 0 10 774 (absorbed t)
+  absorbed-does : (t : List ℕ) → Traced t → Does per m 0 10 (per .ofTip5 + 0) (absorbed t)
   unfolding absorbed
-  absorbed-does t h = sponges m s here 10 0 10 none (Honest.traces (h .six) Honest.none) refl (sponged-sound t h) (omega arith) refl
+  absorbed-does t h = sponges per m s here 10 0 10 none (Honest.traces (h .six) Honest.none) refl (sponged-sound t h) (omega arith) refl
 
-  pub sponge-absorb-does : Acts (Does m 0 10 774) (spongeAbsorbOf (m .state .sponge) (top m))
+  pub sponge-absorb-does : Acts (Does per m 0 10 (per .ofTip5 + 0)) (spongeAbsorbOf (m .state .sponge) (top m))
   unfolding spongeAbsorbOf
   sponge-absorb-does =
       acts-sponge (m .state .sponge)
@@ -83,18 +83,18 @@ module _ (m : Machine) (s : Sound m) (here : m .state .pointer < length (m .code
   absorbed-mem-change : (ten : List ℕ) (a : ℕ) → length (reversed ten 4 ++ (a ∷ [])) + 0 ≡ 5 + 0
   absorbed-mem-change ten a = simp (length-append, reversed-length)
 
-  absorbed-mem-does : (ten : List ℕ) (a : ℕ) (t : List ℕ) → a < p → Words ten → Traced t → Does m 0 0 1024 (absorbedMem ten (readsUp (ram m) a 10) a t)
+  absorbed-mem-does : (ten : List ℕ) (a : ℕ) (t : List ℕ) → a < p → Words ten → Traced t → Does per m 0 0 (per .ofRam * 10 + (per .ofTip5 + 0)) (absorbedMem ten (readsUp (ram m) a 10) a t)
   unfolding absorbedMem
   absorbed-mem-does ten a t l w h =
-      sponges m s here 5 0 0
+      sponges per m s here 5 0 0
       (words-append (reversed-words 4 w) (more (below _) none))
       (reads-up-honest (ram m) (s .cells) a 10 l (Honest.traces (h .six) Honest.none))
-      (reads-up-sizes (ram m) a 10 _)
+      (reads-up-sizes per (ram m) a 10 _)
       (sponged-sound t h)
       (omega arith)
       (absorbed-mem-change ten _)
 
-  pub sponge-absorb-mem-does : Acts (Does m 0 0 1024) (spongeAbsorbMemOf (m .state .sponge) (ram m) (top m))
+  pub sponge-absorb-mem-does : Acts (Does per m 0 0 (per .ofRam * 10 + (per .ofTip5 + 0))) (spongeAbsorbMemOf (m .state .sponge) (ram m) (top m))
   unfolding spongeAbsorbMemOf
   sponge-absorb-mem-does =
       acts-sponge (m .state .sponge)
@@ -103,21 +103,21 @@ module _ (m : Machine) (s : Sound m) (here : m .state .pointer < length (m .code
       (words-up-words (ram m) (s .cells) (st (top m) 0) 10)
       (overwritten-traced (m .state .sponge) (wordsUp (ram m) (st (top m) 0) 10) (s .sponge) (words-up-length (ram m) (st (top m) 0) 10) (words-up-words (ram m) (s .cells) (st (top m) 0) 10))))
 
-  squeezed-does : (t : List ℕ) → Traced t → Does m 10 0 774 (squeezed (m .state .sponge) t)
+  squeezed-does : (t : List ℕ) → Traced t → Does per m 10 0 (per .ofTip5 + 0) (squeezed (m .state .sponge) t)
   unfolding squeezed
   squeezed-does t h =
-      sponges m s here 0 10 0 (reversed-words 10 (s .sponge .words)) (Honest.traces (h .six) Honest.none) refl (sponged-sound t h) (omega arith)
+      sponges per m s here 0 10 0 (reversed-words 10 (s .sponge .words)) (Honest.traces (h .six) Honest.none) refl (sponged-sound t h) (omega arith)
       (rw (reversed-length (m .state .sponge .words) 10))
 
-  pub sponge-squeeze-does : Acts (Does m 10 0 774) (spongeSqueezeOf (m .state .sponge))
+  pub sponge-squeeze-does : Acts (Does per m 10 0 (per .ofTip5 + 0)) (spongeSqueezeOf (m .state .sponge))
   unfolding spongeSqueezeOf
   sponge-squeeze-does = acts-sponge (m .state .sponge) (acting (squeezed-does _ (traced (m .state .sponge .words) (s .sponge .sixteen) (s .sponge .words))))
 
-  assert-from-does : (w : List ℕ) (i n : ℕ) → Acts (Does m 0 5 0) (assertFrom w i n)
+  assert-from-does : (w : List ℕ) (i n : ℕ) → Acts (Does per m 0 5 0) (assertFrom w i n)
   unfolding assertFrom
-  assert-from-does w i zero = acting (puts-does m s here 5 0 5 none (omega arith) refl)
+  assert-from-does w i zero = acting (puts-does per m s here 5 0 5 none (omega arith) refl)
   assert-from-does w i (suc n) = acts-cond (eqb (st w i) (st w (i + 5))) (λ _. assert-from-does w (i + 1) n) (λ _. refusing)
 
-  pub assert-vector-does : Acts (Does m 0 5 0) (assertVectorOf (top m))
+  pub assert-vector-does : Acts (Does per m 0 5 0) (assertVectorOf (top m))
   unfolding assertVectorOf
   assert-vector-does = assert-from-does (top m) 0 5

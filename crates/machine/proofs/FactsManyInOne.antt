@@ -25,7 +25,7 @@ use Rattle.machine.proofs.Words.{words-getD, words-take, words-drop, wo
 use Rattle.machine.proofs.RamLaws.{held-word}
 use Rattle.machine.proofs.Seen.{sees, from-top-length, from-top-words, reversed-length, reversed-words, words-up-length, words-up-words, reads-up-honest}
 use Rattle.machine.proofs.Acts.{Acts, acting, acts-unless, acts-u32}
-use Rattle.machine.proofs.Does.{Does, onward-word, records}
+use Rattle.machine.proofs.Does.{Weights, accessSizes, Does, onward-word, records}
 use Rattle.machine.proofs.FactsArithmetic.{extension-words}
 use Rattle.machine.proofs.FactsHashing.{Traced, fixed-traced, reads-up-sizes}
 
@@ -45,7 +45,7 @@ siblings-words k a b h l = go (eqb (k % 2) 0)
     go true = words-append h l
     go false = words-append l h
 
-module _ (m : Machine) (s : Sound m) (here : m .state .pointer < length (m .code .opcodes)) where
+module _ (per : Weights) (m : Machine) (s : Sound m) (here : m .state .pointer < length (m .code .opcodes)) where
   low : (i : ℕ) → st (top m) i < p
   low i = words-getD _ (sees m s)
 
@@ -61,7 +61,7 @@ module _ (m : Machine) (s : Sound m) (here : m .state .pointer < length (m .code
   parent-words : (t : List ℕ) → Traced t → Words (parent (top m) t)
   parent-words t h = more half (reversed-words 5 (words-drop 80 (h .words)))
 
-  merkle-stepped-does : (t : List ℕ) → Traced t → 5 ≤ length (digestsLeft m) → Does m 0 0 796 (merkleStepped (top m) t)
+  merkle-stepped-does : (t : List ℕ) → Traced t → 5 ≤ length (digestsLeft m) → Does per m 0 0 (per .ofTip5 + (per .ofU32 + 0)) (merkleStepped (top m) t)
   unfolding merkleStepped
   merkle-stepped-does t h l = record {
     own = record {
@@ -81,28 +81,28 @@ module _ (m : Machine) (s : Sound m) (here : m .state .pointer < length (m .code
     };
   }
 
-  pub merkle-step-does : Acts (Does m 0 0 796) (merkleStepOf (digestsLeft m) (top m))
+  pub merkle-step-does : Acts (Does per m 0 0 (per .ofTip5 + (per .ofU32 + 0))) (merkleStepOf (digestsLeft m) (top m))
   unfolding merkleStepOf
   merkle-step-does =
       acts-u32 (st (top m) 5)
       (λ _. acts-unless (ltb (length (digestsLeft m)) 5) _ (λ t. acting (enough (ltb-false (length (digestsLeft m)) 5 t))))
     where
-      enough : 5 ≤ length (digestsLeft m) → Does m 0 0 796 (merkleStepped (top m) (merkleTrace (top m) (take 5 (digestsLeft m))))
+      enough : 5 ≤ length (digestsLeft m) → Does per m 0 0 (per .ofTip5 + (per .ofU32 + 0)) (merkleStepped (top m) (merkleTrace (top m) (take 5 (digestsLeft m))))
       enough l =
           merkle-stepped-does _
           (merkle-traced (take 5 (digestsLeft m)) (length-take-le 5 (digestsLeft m) l) (words-take 5 (words-drop (5 * m .state .digests) (s .code .digests)))) l
 
-  merkle-stepped-mem-does : (t : List ℕ) → Traced t → Does m 0 0 921 (merkleSteppedMem (ram m) (top m) t)
+  merkle-stepped-mem-does : (t : List ℕ) → Traced t → Does per m 0 0 (per .ofTip5 + (per .ofU32 + (per .ofRam * 5 + 0))) (merkleSteppedMem (ram m) (top m) t)
   unfolding merkleSteppedMem
   merkle-stepped-mem-does t h =
-      records m s here 8 0 0
+      records per m s here 8 0 0
       (more (below _) (more (low 6) (parent-words t h)))
       (Honest.traces (h .six) (Honest.u32s (rw append-nil at (reads-up-honest (ram m) (s .cells) (st (top m) 7) 5 (low 7) Honest.none))))
-      (ap (λ (z : ℕ). 774 + (22 + z)) (rw append-nil at (reads-up-sizes (ram m) (st (top m) 7) 5 [])))
+      (ap (λ (z : ℕ). per .ofTip5 + (per .ofU32 + z)) (rw append-nil at (reads-up-sizes per (ram m) (st (top m) 7) 5 [])))
       (omega arith)
       (rw (reversed-length (lastState t) 5))
 
-  pub merkle-step-mem-does : Acts (Does m 0 0 921) (merkleStepMemOf (ram m) (top m))
+  pub merkle-step-mem-does : Acts (Does per m 0 0 (per .ofTip5 + (per .ofU32 + (per .ofRam * 5 + 0)))) (merkleStepMemOf (ram m) (top m))
   unfolding merkleStepMemOf
   merkle-step-mem-does =
       acts-u32 (st (top m) 5)
@@ -115,20 +115,20 @@ module _ (m : Machine) (s : Sound m) (here : m .state .pointer < length (m .code
   reads-at : (a : ℕ) → a < p → {cs : _} → Honest (ram m) cs → Honest (ram m) (readAt (ram m) a ∷ cs)
   reads-at a h k = Honest.reads h (held-word (ram m) a (s .cells .values)) refl k
 
-  pub xx-dot-step-does : Acts (Does m 0 0 150) (xxDotStepOf (ram m) (top m))
+  pub xx-dot-step-does : Acts (Does per m 0 0 (accessSizes per 6)) (xxDotStepOf (ram m) (top m))
   unfolding xxDotStepOf
   xx-dot-step-does =
       acting
-      (records m s here 5 0 0
+      (records per m s here 5 0 0
       (words-append (extension-words _ (addX-words (xst (top m) 2) (mulX (xheld (ram m) (st (top m) 0)) (xheld (ram m) (st (top m) 1))))) (more (below _) (more (below _) none)))
       (reads-at _ (low 0) (reads-at _ (low 1) (reads-at _ (below _) (reads-at _ (below _) (reads-at _ (below _) (reads-at _ (below _) Honest.none))))))
       refl (omega arith) refl)
 
-  pub xb-dot-step-does : Acts (Does m 0 0 100) (xbDotStepOf (ram m) (top m))
+  pub xb-dot-step-does : Acts (Does per m 0 0 (accessSizes per 4)) (xbDotStepOf (ram m) (top m))
   unfolding xbDotStepOf
   xb-dot-step-does =
       acting
-      (records m s here 5 0 0
+      (records per m s here 5 0 0
       (words-append (extension-words _ (addX-words (xst (top m) 2) (scaleX (held (ram m) (st (top m) 0)) (xheld (ram m) (st (top m) 1))))) (more (below _) (more (below _) none)))
       (reads-at _ (low 0) (reads-at _ (low 1) (reads-at _ (below _) (reads-at _ (below _) Honest.none))))
       refl (omega arith) refl)

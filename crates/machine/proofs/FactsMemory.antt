@@ -18,45 +18,45 @@ use Rattle.machine.specs.Sound.{Sound, Honest, HonestJump}
 use Rattle.machine.proofs.Words.{words-getD, words-take, words-drop, words-append}
 use Rattle.machine.proofs.Seen.{sees, words-down-words, words-down-length, reads-down-honest, writes-up-honest}
 use Rattle.machine.proofs.Acts.{Acts, acting, acts-unless}
-use Rattle.machine.proofs.Does.{callSizes, Does, onward-word, records, puts-does}
+use Rattle.machine.proofs.Does.{Weights, weighed, Does, onward-word, records, puts-does}
 
-reads-down-sizes : (c : Cells) (a n : ℕ) → callSizes (readsDown c a n) ≡ 25 * n
+reads-down-sizes : (per : Weights) (c : Cells) (a n : ℕ) → weighed per (readsDown c a n) ≡ per .ofRam * n
 unfolding readsDown
-reads-down-sizes c a zero = refl
-reads-down-sizes c a (suc n) = rw (reads-down-sizes c (subP a 1) n) (omega arith)
+reads-down-sizes per c a zero = omega arith
+reads-down-sizes per c a (suc n) = rw (reads-down-sizes per c (subP a 1) n) (omega arith)
 
-writes-up-sizes : (w : List ℕ) (i a n : ℕ) → callSizes (writesUp w i a n) ≡ 25 * n
+writes-up-sizes : (per : Weights) (w : List ℕ) (i a n : ℕ) → weighed per (writesUp w i a n) ≡ per .ofRam * n
 unfolding writesUp
-writes-up-sizes w i a zero = refl
-writes-up-sizes w i a (suc n) = rw (writes-up-sizes w (i + 1) (addP a 1) n) (omega arith)
+writes-up-sizes per w i a zero = omega arith
+writes-up-sizes per w i a (suc n) = rw (writes-up-sizes per w (i + 1) (addP a 1) n) (omega arith)
 
-module _ (m : Machine) (s : Sound m) (here : m .state .pointer < length (m .code .opcodes)) where
+module _ (per : Weights) (m : Machine) (s : Sound m) (here : m .state .pointer < length (m .code .opcodes)) where
   read-mem-change : (a b n : ℕ) → length (wordsDown (ram m) a n ++ (b ∷ [])) + 0 ≡ 1 + n
   read-mem-change a b n = simp (length-append, words-down-length) (omega arith)
 
-  pub read-mem-does : (n : ℕ) → n ≤ 5 → Acts (Does m n 0 (25 * n)) (readMemOf (ram m) (top m) n)
+  pub read-mem-does : (n : ℕ) → n ≤ 5 → Acts (Does per m n 0 (per .ofRam * n)) (readMemOf (ram m) (top m) n)
   unfolding readMemOf
   read-mem-does n h =
       acting
-      (records m s here 1 n 0
+      (records per m s here 1 n 0
       (words-append (words-down-words (ram m) (s .cells) (st (top m) 0) n) (more (below _) none))
       (reads-down-honest (ram m) (s .cells) (st (top m) 0) n (words-getD 15 (sees m s)))
-      (reads-down-sizes (ram m) (st (top m) 0) n)
+      (reads-down-sizes per (ram m) (st (top m) 0) n)
       (omega arith)
       (read-mem-change (st (top m) 0) _ n))
 
-  pub write-mem-does : (n : ℕ) → n ≤ 5 → Acts (Does m 0 n (25 * n)) (writeMemOf (top m) n)
+  pub write-mem-does : (n : ℕ) → n ≤ 5 → Acts (Does per m 0 n (per .ofRam * n)) (writeMemOf (top m) n)
   unfolding writeMemOf
   write-mem-does n h =
       acting
-      (records m s here (n + 1) 0 n
+      (records per m s here (n + 1) 0 n
       (more (below (st (top m) 0 + n)) none)
       (writes-up-honest (ram m) 1 (st (top m) 0) n (sees m s) (words-getD 15 (sees m s)))
-      (writes-up-sizes (top m) 1 (st (top m) 0) n)
+      (writes-up-sizes per (top m) 1 (st (top m) 0) n)
       (omega arith)
       (omega arith))
 
-  taken-does : (n : ℕ) → n ≤ length (publicLeft m) → Does m n 0 0 (taken n (publicLeft m))
+  taken-does : (n : ℕ) → n ≤ length (publicLeft m) → Does per m n 0 0 (taken n (publicLeft m))
   taken-does n l = record {
     own = record {
       pops = omega arith;
@@ -75,10 +75,10 @@ module _ (m : Machine) (s : Sound m) (here : m .state .pointer < length (m .code
     };
   }
 
-  pub read-io-does : (n : ℕ) → Acts (Does m n 0 0) (readIoOf n (publicLeft m))
+  pub read-io-does : (n : ℕ) → Acts (Does per m n 0 0) (readIoOf n (publicLeft m))
   unfolding readIoOf
   read-io-does n = acts-unless (ltb (length (publicLeft m)) n) _ (λ t. acting (taken-does n (ltb-false (length (publicLeft m)) n t)))
 
-  pub write-io-does : (n : ℕ) → n ≤ 5 → Acts (Does m 0 n 0) (writeIoOf (top m) n)
+  pub write-io-does : (n : ℕ) → n ≤ 5 → Acts (Does per m 0 n 0) (writeIoOf (top m) n)
   unfolding writeIoOf
-  write-io-does n h = acting (puts-does m s here n 0 n none (omega arith) (omega arith))
+  write-io-does n h = acting (puts-does per m s here n 0 n none (omega arith) (omega arith))

@@ -15,7 +15,7 @@ use Rattle.machine.specs.Sound.{Sound, Honest, HonestJump}
 use Rattle.machine.proofs.Words.{words-getD, words-set, words-take, words-drop, words-append}
 use Rattle.machine.proofs.Seen.{sees-sixteen, sees}
 use Rattle.machine.proofs.Acts.{Acts, acting, acts-unless}
-use Rattle.machine.proofs.Does.{Does, onward-word, puts-does}
+use Rattle.machine.proofs.Does.{Weights, Does, onward-word, puts-does}
 
 -- ---- sixteen words rearranged are sixteen words
 
@@ -43,16 +43,16 @@ swapped-words : (w : List ℕ) (i : ℕ) → Words w → Words (swapped w i)
 unfolding swapped
 swapped-words w i b = words-set (15 - i) _ (words-getD 15 b) (words-set 15 _ (words-getD (15 - i) b) b)
 
-module _ (m : Machine) (s : Sound m) (here : m .state .pointer < length (m .code .opcodes)) where
-  pub push-does : (n : ℕ) → n < p → Acts (Does m 1 0 0) (pushOf n)
+module _ (per : Weights) (m : Machine) (s : Sound m) (here : m .state .pointer < length (m .code .opcodes)) where
+  pub push-does : (n : ℕ) → n < p → Acts (Does per m 1 0 0) (pushOf n)
   unfolding pushOf
-  push-does n h = acting (puts-does m s here 0 1 0 (more h none) (omega arith) refl)
+  push-does n h = acting (puts-does per m s here 0 1 0 (more h none) (omega arith) refl)
 
-  pub pop-does : (n : ℕ) → n ≤ 5 → Acts (Does m 0 n 0) (popOf n)
+  pub pop-does : (n : ℕ) → n ≤ 5 → Acts (Does per m 0 n 0) (popOf n)
   unfolding popOf
-  pop-does n h = acting (puts-does m s here n 0 n none (omega arith) (omega arith))
+  pop-does n h = acting (puts-does per m s here n 0 n none (omega arith) (omega arith))
 
-  divined-does : (n : ℕ) → n ≤ 5 → n ≤ length (secretLeft m) → Does m n 0 0 (divined n (secretLeft m))
+  divined-does : (n : ℕ) → n ≤ 5 → n ≤ length (secretLeft m) → Does per m n 0 0 (divined n (secretLeft m))
   divined-does n h l = record {
     own = record {
       pops = omega arith;
@@ -71,22 +71,22 @@ module _ (m : Machine) (s : Sound m) (here : m .state .pointer < length (m .code
     };
   }
 
-  pub divine-does : (n : ℕ) → n ≤ 5 → Acts (Does m n 0 0) (divineOf n (secretLeft m))
+  pub divine-does : (n : ℕ) → n ≤ 5 → Acts (Does per m n 0 0) (divineOf n (secretLeft m))
   unfolding divineOf
   divine-does n h = acts-unless (ltb (length (secretLeft m)) n) _ (λ t. acting (divined-does n h (ltb-false (length (secretLeft m)) n t)))
 
-  pub pick-does : (i : ℕ) → i ≤ 15 → Acts (Does m 0 0 0) (pickOf (top m) i)
+  pub pick-does : (i : ℕ) → i ≤ 15 → Acts (Does per m 0 0 0) (pickOf (top m) i)
   unfolding pickOf
-  pick-does i h = acting (puts-does m s here 16 0 0 (picked-words (top m) i (sees m s)) (omega arith) (rw (picked-length (top m) i (sees-sixteen m s) h)))
+  pick-does i h = acting (puts-does per m s here 16 0 0 (picked-words (top m) i (sees m s)) (omega arith) (rw (picked-length (top m) i (sees-sixteen m s) h)))
 
-  pub place-does : (i : ℕ) → i ≤ 15 → Acts (Does m 0 0 0) (placeOf (top m) i)
+  pub place-does : (i : ℕ) → i ≤ 15 → Acts (Does per m 0 0 0) (placeOf (top m) i)
   unfolding placeOf
-  place-does i h = acting (puts-does m s here 16 0 0 (placed-words (top m) i (sees m s)) (omega arith) (rw (placed-length (top m) i (sees-sixteen m s) h)))
+  place-does i h = acting (puts-does per m s here 16 0 0 (placed-words (top m) i (sees m s)) (omega arith) (rw (placed-length (top m) i (sees-sixteen m s) h)))
 
-  pub dup-does : (i : ℕ) → Acts (Does m 1 0 0) (dupOf (top m) i)
+  pub dup-does : (i : ℕ) → Acts (Does per m 1 0 0) (dupOf (top m) i)
   unfolding dupOf
-  dup-does i = acting (puts-does m s here 0 1 0 (more (words-getD (15 - i) (sees m s)) none) (omega arith) refl)
+  dup-does i = acting (puts-does per m s here 0 1 0 (more (words-getD (15 - i) (sees m s)) none) (omega arith) refl)
 
-  pub swap-does : (i : ℕ) → Acts (Does m 0 0 0) (swapOf (top m) i)
+  pub swap-does : (i : ℕ) → Acts (Does per m 0 0 0) (swapOf (top m) i)
   unfolding swapOf
-  swap-does i = acting (puts-does m s here 16 0 0 (swapped-words (top m) i (sees m s)) (omega arith) (rw (swapped-length (top m) i (sees-sixteen m s))))
+  swap-does i = acting (puts-does per m s here 16 0 0 (swapped-words (top m) i (sees m s)) (omega arith) (rw (swapped-length (top m) i (sees-sixteen m s))))

@@ -13,6 +13,7 @@ pub mod Seen
 pub mod Acts
 pub mod Rows
 pub mod Does
+pub mod Weighed
 pub mod FactsStack
 pub mod Traces
 pub mod SpongeLaws

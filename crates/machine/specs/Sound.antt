@@ -1,6 +1,6 @@
 -- What place A accepts, said as facts: what a step may rely on and leaves again. And what an instruction's effect has to
 -- satisfy, so that a step leaves it.
-use Prim.Native.Nat.{ℕ, _+_, _-_, _*_, _%_, _≤_, _<_}
+use Prim.Native.Nat.{ℕ, suc, _+_, _-_, _*_, _%_, _≤_, _<_}
 use mathlib.Core.Path.{_≡_}
 use mathlib.Core.Bool.{Bool}
 use mathlib.Core.List.{List, [], _∷_}
@@ -75,6 +75,15 @@ pub data Honest : Cells → List Call → Type 0 where
   reads : {c : Cells} {cs : List Call} {a v : ℕ} → a < p → v < p → v ≡ held c a → Honest c cs → Honest c (ramRead a v ∷ cs)
   writes : {c : Cells} {cs : List Call} {a v : ℕ} → a < p → v < p → Honest (stored c a v) cs → Honest c (ramWrite a v ∷ cs)
 
+-- how many of the calls are RAM's
+unfoldable pub ramCalls : List Call → ℕ
+ramCalls [] = 0
+ramCalls (reset ∷ cs) = ramCalls cs
+ramCalls (tip5 o t ∷ cs) = ramCalls cs
+ramCalls (u32 o l r ∷ cs) = ramCalls cs
+ramCalls (ramRead a v ∷ cs) = suc (ramCalls cs)
+ramCalls (ramWrite a v ∷ cs) = suc (ramCalls cs)
+
 -- what is pushed on the jump stack are words
 pub data HonestJump : JumpChange → Type 0 where
   staying : HonestJump stays
@@ -86,12 +95,16 @@ pub record Facts (m : Machine) (e : Effect) : Type 0 where
   -- it takes at most sixteen words, and the depth stays at 16 or more
   pub pops : e .pops ≤ 16
   pub deep : 16 + e .pops ≤ m .state .depth + length (e .words)
+  -- by at most ten words deeper or less deep
+  pub grows : length (e .words) ≤ e .pops + 10
+  pub shrinks : e .pops ≤ length (e .words) + 10
   -- what it puts on, and where it goes, are words
   pub words : Words (e .words)
   pub next : pointerAfter m (e .next) < p
   pub jump : HonestJump (e .jump)
-  -- its RAM reads carry the words held
+  -- its RAM reads carry the words held, and it makes at most ten RAM accesses
   pub calls : Honest (ram m) (e .calls)
+  pub accesses : ramCalls (e .calls) ≤ 10
   -- it takes no more input than there is
   pub publics : m .state .publics + e .publics ≤ length (m .code .public)
   pub secrets : m .state .secrets + e .secrets ≤ length (m .code .secret)

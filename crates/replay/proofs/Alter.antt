@@ -5,7 +5,7 @@ use mathlib.Core.List.{List, [], _∷_, _++_}
 use Prim.Native.Nat.{ℕ, _-_, _<_}
 use native.Mathlib.Omega.{arith}
 use lib.ListN.{getD}
-use Rattle.choices.specs.Choice.{cond, firstOf}
+use Rattle.choices.specs.Choice.{cond, firstOf, differOf}
 use Rattle.machine.specs.Ram.{held}
 use Rattle.machine.specs.Bytes.{bytesOf, isWord}
 use Rattle.machine.specs.Records.{Record, other, stack, ram}
@@ -78,19 +78,25 @@ fault-is q x m k h e f = rw (fields-value q x h) (go (isWord (bytesOf 8 x)))
     go true = first-zero 0 (firstOf m k) refl ∙ first-zero m k e ∙ f
     go false = first-left 40 (firstOf m k) (λ z. omega arith)
 
-stack-43 : (b : Built) (q v x : ℕ) → (x ≡ v → ⊥) → stackFault b q 0 v ≡ 0 → stackFault b q 0 x ≡ 43
+-- 43 comes before 45
+differs-43 : (x y n : ℕ) → (x ≡ y → ⊥) → firstOf (differOf x y 43) n ≡ 43
+differs-43 x y n h =
+    let e = differ-is x y 43 h in
+    first-left _ n (λ z. absurd (omega arith)) ∙ e
+
+stack-43 : (b : Built) (t q v x : ℕ) → (x ≡ v → ⊥) → stackFault b t q 0 v ≡ 0 → stackFault b t q 0 x ≡ 43
 unfolding stackFault
-stack-43 b q v x n h =
+stack-43 b t q v x n h =
     let a = first-nil _ _ h in
     let c = first-nil _ _ (a .1) in
-    let w = differ-nil v (getD (b .words) (b .depth - 17) 0) 43 (omega arith) (c .1) in
-    first-zero _ _ (a .0) ∙ first-zero _ _ (c .0) ∙ differ-is x (getD (b .words) (b .depth - 17) 0) 43 (λ z. n (z ∙ sym w))
+    let w = differ-nil v (getD (b .words) (b .depth - 17) 0) 43 (omega arith) (first-nil _ _ (c .1) .0) in
+    first-zero _ _ (a .0) ∙ first-zero _ _ (c .0) ∙ differs-43 x (getD (b .words) (b .depth - 17) 0) _ (λ z. n (z ∙ sym w))
 
-ram-43 : (b : Built) (a v x : ℕ) → (x ≡ v → ⊥) → ramFault b a v 0 ≡ 0 → ramFault b a x 0 ≡ 43
+ram-43 : (b : Built) (t a v x : ℕ) → (x ≡ v → ⊥) → ramFault b t a v 0 ≡ 0 → ramFault b t a x 0 ≡ 43
 unfolding ramFault
-ram-43 b a v x n h =
-    let w = differ-nil v (held (b .cells) a) 43 (omega arith) h in
-    differ-is x (held (b .cells) a) 43 (λ z. n (z ∙ sym w))
+ram-43 b t a v x n h =
+    let w = differ-nil v (held (b .cells) a) 43 (omega arith) (first-nil _ _ h .0) in
+    differs-43 x (held (b .cells) a) _ (λ z. n (z ∙ sym w))
 
 wrong-is : (j t n m : ℕ) (b : Built) → t < j → n ≡ m → (m ≡ 0 → ⊥) → judged j t n b ≡ wrong m
 wrong-is j t n m b h e k = rw e (judged-wrong j t m b h k)
@@ -101,11 +107,11 @@ unfolding readOf changed
 read-other j b c r v x (ofStack {t = t} {q = q} h) n e =
     let z = first-nil _ _ (judged-went j t _ (stackTurn b t 0 v) c e .0) in
     let y = first-nil _ _ (z .1) in
-    wrong-is j t _ (faultOf x) (stackTurn b t 0 x) h (fault-is q x _ _ (fields-address q v (z .0)) (y .0) (stack-43 b q v x n (y .1))) (fault-not x)
+    wrong-is j t _ (faultOf x) (stackTurn b t 0 x) h (fault-is q x _ _ (fields-address q v (z .0)) (y .0) (stack-43 b t q v x n (y .1))) (fault-not x)
 read-other j b c r v x (ofRam {t = t} {a = a} h) n e =
     let z = first-nil _ _ (judged-went j t _ (ramTurn b t a v 0) c e .0) in
     let y = first-nil _ _ (z .1) in
-    wrong-is j t _ (faultOf x) (ramTurn b t a x 0) h (fault-is a x _ _ (fields-address a v (z .0)) (y .0) (ram-43 b a v x n (y .1))) (fault-not x)
+    wrong-is j t _ (faultOf x) (ramTurn b t a x 0) h (fault-is a x _ _ (fields-address a v (z .0)) (y .0) (ram-43 b t a v x n (y .1))) (fault-not x)
 
 read-not-late : (j : ℕ) (r : Record) (v : ℕ) → Read j r v → Late j r → ⊥
 read-not-late j r v (ofStack h) (late-stack k) = omega arith

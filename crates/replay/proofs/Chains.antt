@@ -19,13 +19,13 @@ use Rattle.machine.specs.Sound.{Sound, Facts}
 use Rattle.machine.proofs.Preserved.{limits-fit}
 use Rattle.machine.proofs.Step.{Took, step-took, took-sound}
 use Rattle.machine.proofs.Path.{Chain, chain-none, chain-more}
-use Rattle.replay.specs.Replay.{Built, built}
+use Rattle.replay.specs.Replay.{Tally, Built, built}
 use Rattle.replay.specs.Demand3.{under}
 use Rattle.replay.proofs.Verdicts.{Reads, none, reads-append, All, all-append, all-map, Late, late-other, late-stack, late-ram}
-use Rattle.replay.proofs.Steps.{Comes, Fine, fine-other, fine-stack, fine-ram, step-reads, step-fine}
+use Rattle.replay.proofs.Steps.{Fresh, fresh-next, Arrives, Fine, fine-other, fine-stack, fine-ram, step-reads, step-fine}
 
 -- what replay stands at when it has rebuilt the machine m
-abbrev pub shadow : ℕ → Machine → Cells → Built
+abbrev pub shadow : Tally → Machine → Cells → Built
 shadow l m c = built l (m .state .depth) (under (m .memory .opStack) (m .state .depth)) c
 
 -- ---- records of a step at clock k or later
@@ -55,18 +55,18 @@ since-late j k h r s = fine-late j (s .at) r (omega (arith, s .late)) (s .fine)
 pub record Split (j : ℕ) (b : Built) (log : List Record) (x : Machine) : Type 0 where
   pub before : List Record
   pub behind : List Record
-  pub last : ℕ
+  pub counts : Tally
   pub joined : log ≡ before ++ behind
   pub now : Cells
   pub alike : Alike now (M.ram x)
-  pub reads : Reads j b before (shadow last x now)
+  pub reads : Reads j b before (shadow counts x now)
   pub rest : All (Late j) behind
 
 split-more : {j : ℕ} {b c : Built} {rs log : List Record} {x : Machine} → Reads j b rs c → Split j c log x → Split j b (rs ++ log) x
 split-more {rs = rs} h s = record {
   before = rs ++ s .before;
   behind = s .behind;
-  last = s .last;
+  counts = s .counts;
   now = s .now;
   alike = s .alike;
   joined = ap (λ (u : List Record). rs ++ u) (s .joined) ∙ sym (append-assoc rs (s .before) (s .behind));
@@ -74,8 +74,8 @@ split-more {rs = rs} h s = record {
   rest = s .rest;
 }
 
-split-late : (j l : ℕ) {log : List Record} (x : Machine) (c : Cells) → Alike c (M.ram x) → All (Late j) log → Split j (shadow l x c) log x
-split-late j l {log} x c al h = record { before = []; behind = log; last = l; now = c; alike = al; joined = refl; reads = none; rest = h }
+split-late : (j : ℕ) (l : Tally) {log : List Record} (x : Machine) (c : Cells) → Alike c (M.ram x) → All (Late j) log → Split j (shadow l x c) log x
+split-late j l {log} x c al h = record { before = []; behind = log; counts = l; now = c; alike = al; joined = refl; reads = none; rest = h }
 
 -- ---- steps in a row
 
@@ -87,8 +87,8 @@ module _ (decide : Machine → Decision) (facts : (m : Machine) → Sound m → 
   next-records : (m x : Machine) (t : Took m (decide m) x) → recordsIn m (decide m) ≡ recordsOf m (t .effect)
   next-records m x t = rw (t .acting)
 
-  next-reads : (m x : Machine) → Sound m → Took m (decide m) x → (j : ℕ) → m .state .clock < j → (c : Cells) → Alike c (M.ram m) → (l : ℕ) → l ≤ m .state .clock →
-      Comes j (m .state .clock) (shadow l m c) (recordsIn m (decide m)) (x .state .depth) (under (x .memory .opStack) (x .state .depth)) (M.ram x)
+  next-reads : (m x : Machine) → Sound m → Took m (decide m) x → (j : ℕ) → m .state .clock < j → (c : Cells) → Alike c (M.ram m) → (l : Tally) → Fresh l (m .state .clock) →
+      Arrives j (m .state .clock) (shadow l m c) (recordsIn m (decide m)) (x .state .depth) (under (x .memory .opStack) (x .state .depth)) (M.ram x)
   unfolding performed
   next-reads m x s t j early c al l h =
       rw (next-records m x t, ← t .is)
@@ -106,7 +106,7 @@ module _ (decide : Machine → Decision) (facts : (m : Machine) → Sound m → 
       (all-map (since-less (m .state .clock) (x .state .clock) c) (chain-fine ch (took-sound decide facts m x s t))))
 
   pub chain-split : {m : Machine} {ms : List Machine} → Chain decide m ms → Sound m → (j : ℕ) → m .state .clock ≤ j → j ≤ m .state .clock + length ms →
-      (c : Cells) → Alike c (M.ram m) → (l : ℕ) → l ≤ m .state .clock → (z : Machine) →
+      (c : Cells) → Alike c (M.ram m) → (l : Tally) → Fresh l (m .state .clock) → (z : Machine) →
       Split j (shadow l m c) (logFrom decide m ms) (getD (m ∷ ms) (j - m .state .clock) z)
   unfolding logFrom
   chain-split {m} chain-none s j low high c al l h z =
@@ -117,7 +117,7 @@ module _ (decide : Machine → Decision) (facts : (m : Machine) → Sound m → 
     where
       go : (b : Bool) → ltb (m .state .clock) j ≡ b →
           All (Since (m .state .clock)) (recordsIn m (decide m) ++ logFrom decide x xs) →
-          (x .state .clock ≤ j → j ≤ x .state .clock + length xs → (d : Cells) → Alike d (M.ram x) → (n : ℕ) → n ≤ x .state .clock → (y : Machine) → Split j (shadow n x d) (logFrom decide x xs) (getD (x ∷ xs) (j - x .state .clock) y)) →
+          (x .state .clock ≤ j → j ≤ x .state .clock + length xs → (d : Cells) → Alike d (M.ram x) → (n : Tally) → Fresh n (x .state .clock) → (y : Machine) → Split j (shadow n x d) (logFrom decide x xs) (getD (x ∷ xs) (j - x .state .clock) y)) →
           Split j (shadow l m c) (recordsIn m (decide m) ++ logFrom decide x xs) (getD (m ∷ x ∷ xs) (j - m .state .clock) z)
       go true q f ih =
           let t = step-took decide m x e in
@@ -125,7 +125,7 @@ module _ (decide : Machine → Decision) (facts : (m : Machine) → Sound m → 
           let n : x .state .clock ≡ m .state .clock + 1 = next-clock m x t in
           let k = next-reads m x s t j o c al l h in
           let i : j - m .state .clock ≡ suc (j - x .state .clock) = omega arith in
-          rw i (split-more (k .reads) (ih (omega arith) (omega arith) (k .now) (k .alike) (k .last) (omega (arith, k .rise)) z))
+          rw i (split-more (k .reads) (ih (omega arith) (omega arith) (k .now) (k .alike) (k .counts) (fresh-next (k .counts) (x .state .clock) (omega (arith, k .rise))) z))
       go false q f ih =
           let o : j ≤ m .state .clock = ltb-false (m .state .clock) j q in
           let i : j - m .state .clock ≡ 0 = omega arith in

@@ -1,7 +1,7 @@
 -- Demand 3, of any instruction set whose effects have the facts. Assumes nothing.
 use mathlib.Core.Path.{_≡_, refl, sym, ap, subst, _∙_}
 use mathlib.Core.List.{List, [], _∷_, _++_, append-assoc}
-use Prim.Native.Nat.{ℕ, _+_, _-_, _≤_, _<_}
+use Prim.Native.Nat.{ℕ, _-_, _≤_, _<_}
 use native.Mathlib.Omega.{arith}
 use borrow.Author.Tests.{eq-eqb}
 use lib.ListN.{length, replicate, length-append, length-replicate}
@@ -20,12 +20,12 @@ use Rattle.machine.proofs.RamLaws.{cells1-alike, cells2-alike, cells5-alike}
 use Rattle.machine.proofs.Bytes.{bytes-back, number-small}
 use Rattle.machine.proofs.Records.{Sized, sized-other, sized-stack, sized-ram, many-bytes, log-append}
 use Rattle.machine.proofs.PlaceA.{Opened, open-sound, cells1-fine, cells2-fine, cells5-fine}
-use Rattle.replay.specs.Replay.{built, fine, replayRecords, finished, refuses, replayA, replayOf}
+use Rattle.replay.specs.Replay.{tally, started, fine, replayRecords, finished, refuses, replayA, replayOf}
 use Rattle.replay.specs.Job.{Ask, recordsOfJob, machineAt}
 use Rattle.replay.specs.Demand3.{Rebuilt, Read, altered, replayed, Case, Demand3}
 use Rattle.replay.proofs.Under.{under-zeros}
 use Rattle.replay.proofs.Verdicts.{All, more, all-map, replay-on, replay-late}
-use Rattle.replay.proofs.Steps.{Fine, fine-other, fine-stack, fine-ram}
+use Rattle.replay.proofs.Steps.{fresh-first, Fine, fine-other, fine-stack, fine-ram}
 use Rattle.replay.proofs.Chains.{shadow, Since, Split, chain-fine, chain-split}
 use Rattle.replay.proofs.Calls.{job-chain}
 use Rattle.replay.proofs.Alter.{changed, replay-other}
@@ -48,9 +48,9 @@ replay-accepts m c log s h l =
 
 -- and it goes over the records
 replay-is : (c : Cells) (n j : ℕ) (rs : List Record) → replayA (logBytes rs) c (replicate n 0) ≡ 0 → All Sized rs →
-    replayOf (logBytes rs) c (replicate n 0) j ≡ finished (replayRecords j (built 0 16 (replicate n 0) c) rs) (replicate n 0) c
+    replayOf (logBytes rs) c (replicate n 0) j ≡ finished (replayRecords j (started (replicate n 0) c) rs) (replicate n 0) c
 unfolding replayOf
-replay-is c n j rs z s = rw (eq-eqb _ 0 z, bytes-replay (length (logBytes rs)) j (built 0 16 (replicate n 0) c) s (many-bytes rs))
+replay-is c n j rs z s = rw (eq-eqb _ 0 z, bytes-replay (length (logBytes rs)) j (started (replicate n 0) c) s (many-bytes rs))
 
 -- ---- the records of a job fit their bytes
 
@@ -94,26 +94,26 @@ module _ (decide : Machine → Decision) (facts : (m : Machine) → Sound m → 
     opens : Opened m
     opens = open-sound (o .digest) (o .code) (o .memory) (o .count) m (o .opens)
 
-    opening : built 0 16 (replicate (length (m .memory .opStack)) 0) c ≡ shadow 0 m c
+    opening : started (replicate (length (m .memory .opStack)) 0) c ≡ shadow (tally 0 0 0 0) m c
     opening = rw (opens .depth, under-zeros (m .memory .opStack))
 
-    split : Split j (shadow 0 m c) (recordsOfJob decide m asks) (machineAt decide m asks j)
+    split : Split j (shadow (tally 0 0 0 0) m c) (recordsOfJob decide m asks) (machineAt decide m asks j)
     split =
         let e : j - m .state .clock ≡ j = omega (arith, opens .clock) in
         rw e at
-        (chain-split decide facts (job-chain decide asks m) (opens .sound) j (omega (arith, opens .clock)) (omega (arith, o .clock)) c (o .same) 0 (omega arith) m)
+        (chain-split decide facts (job-chain decide asks m) (opens .sound) j (omega (arith, opens .clock)) (omega (arith, o .clock)) c (o .same) (tally 0 0 0 0) (rw (opens .clock) fresh-first) m)
 
     all-sized : All Sized (recordsOfJob decide m asks)
     all-sized = all-map (since-sized (m .state .clock)) (chain-fine decide facts (job-chain decide asks m) (opens .sound))
 
     over-records : (rs : List Record) → All Sized rs → length (logBytes rs) ≤ 16777216 →
-        replayed m c (logBytes rs) j ≡ finished (replayRecords j (shadow 0 m c) rs) (replicate (length (m .memory .opStack)) 0) c
+        replayed m c (logBytes rs) j ≡ finished (replayRecords j (shadow (tally 0 0 0 0) m c) rs) (replicate (length (m .memory .opStack)) 0) c
     over-records rs s l = rw (← opening) (replay-is c (length (m .memory .opStack)) j rs (replay-accepts m c (logBytes rs) (opens .sound) (o .same) l) s)
 
     rebuilt : Rebuilt (replayed m c (logBytes (recordsOfJob decide m asks)) j) (machineAt decide m asks j)
     rebuilt =
         let s = split in
-        let h : replayRecords j (shadow 0 m c) (recordsOfJob decide m asks) ≡ fine (shadow (s .last) (machineAt decide m asks j) (s .now)) =
+        let h : replayRecords j (shadow (tally 0 0 0 0) m c) (recordsOfJob decide m asks) ≡ fine (shadow (s .counts) (machineAt decide m asks j) (s .now)) =
         rw (s .joined) (replay-on (s .behind) (s .reads) ∙ replay-late j _ (s .behind) (s .rest)) in
         rw (over-records (recordsOfJob decide m asks) all-sized (o .short), h) (record { succeeds = refl; depth = refl; used = s .alike; words = refl })
 

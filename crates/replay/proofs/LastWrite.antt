@@ -29,7 +29,7 @@ turned j b c (ram t a v zero) e = rw (← judged-went j t _ _ c e .1) by-read
 turned j b c (ram t a v (suc d)) e =
     let k = judged-went j t _ _ c e in
     let x = first-nil _ _ (first-nil _ _ (k .0) .1) in
-    rw (← k .1) (by-write (above-nil _ _ 44 (omega arith) (x .1)))
+    rw (← k .1) (by-write (above-nil _ _ 44 (omega arith) (first-nil _ _ (x .1) .1)))
 
 -- ---- one record
 

@@ -12,5 +12,5 @@ pub mod Job
 pub mod Triton
 pub mod Witness
 pub mod LastWrite
-pub mod Decide
+pub mod Strip
 pub mod Refused

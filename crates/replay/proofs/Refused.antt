@@ -7,7 +7,7 @@ use lib.ListN.{length}
 use lib.Dec.{eqb}
 use Rattle.choices.specs.Choice.{cond}
 use Rattle.machine.specs.Ram.{Cells}
-use Rattle.replay.specs.Replay.{Went, bad, fine, built, Replayed, refuses, finished, replayBytes, replayA, replayOf}
+use Rattle.replay.specs.Replay.{Went, bad, fine, started, Replayed, refuses, finished, replayBytes, replayA, replayOf}
 
 pub record Unchanged (s : List ℕ) (c : Cells) (r : Replayed) : Type 0 where
   pub depth : r .depth ≡ 0
@@ -25,7 +25,7 @@ unfolding replayOf
 replay-refused log c s j = go (eqb (replayA log c s) 0)
   where
     w : Went
-    w = replayBytes (length log) j (built 0 16 s c) log
+    w = replayBytes (length log) j (started s c) log
 
     go : (t : Bool) → (cond t (finished w s c) (refuses (replayA log c s) s c) .number ≡ 0 → ⊥) → Unchanged s c (cond t (finished w s c) (refuses (replayA log c s) s c))
     go true h = finished-refused w s c h

@@ -1,11 +1,11 @@
 -- One step: replay reads its records from the machine before it to the machine after it. Assumes nothing.
-use mathlib.Core.Path.{_≡_, refl, sym, _∙_}
+use mathlib.Core.Path.{_≡_, refl, sym, ap, subst, _∙_}
 use mathlib.Core.Bool.{Bool, true, false}
-use mathlib.Core.List.{List, [], _++_}
+use mathlib.Core.List.{List, [], _∷_, _++_}
 use Prim.Native.Nat.{ℕ, zero, suc, _+_, _-_, _≤_, _<_}
 use native.Mathlib.Nat.{add-zero, sub-zero}
 use native.Mathlib.Omega.{arith}
-use borrow.Author.Tests.{leb-true, leb-false}
+use borrow.Author.Tests.{eq-eqb, ne-eqb, leb-true, leb-false}
 use lib.ListN.{length, getD, length-append}
 use lib.Dec.{leb, lit≤}
 use Rattle.machine.specs.Words.{p, Words}
@@ -16,7 +16,7 @@ use Rattle.machine.specs.Bytes.{bytesOf}
 use Rattle.machine.specs.Effect.{Call, Effect}
 use Rattle.machine.specs.Apply.{touched, depthAfter, stackAfter, ramAfter}
 use Rattle.machine.specs.Records.{Record, other, stack, ram, lengthOf, wordsBytes, callRecord, callRecords, growing, shrinking, stackRecords, recordsOf}
-use Rattle.machine.specs.Sound.{Honest, Sound, Facts}
+use Rattle.machine.specs.Sound.{Honest, Sound, Facts, ramCalls}
 use Rattle.machine.proofs.Words.{words-getD}
 use Rattle.machine.proofs.RamLaws.{stored-addresses, alike-held, alike-stored}
 use Rattle.machine.proofs.Touched.{touched-more}
@@ -24,18 +24,68 @@ use Rattle.machine.proofs.OpStack.{applied-words, applied-length, applied-below
 use Rattle.machine.proofs.Bytes.{bytes-length}
 use Rattle.machine.proofs.Records.{words-bytes-length, stack-grows, stack-shrinks}
 use Rattle.machine.proofs.Preserved.{Fits}
-use Rattle.replay.specs.Replay.{Built, built}
+use Rattle.replay.specs.Replay.{Tally, tally, tallyAt, withStack, withRam, Built, built}
 use Rattle.replay.specs.Demand3.{under}
 use Rattle.replay.proofs.Under.{under-same, under-length, under-more, under-top, under-less}
 use Rattle.replay.proofs.Verdicts.{Reads, none, more, reads-append, reads-snoc, All, all-append, ram-read, ram-write, stack-read, stack-write, other-read}
 
--- replay comes from b over the records rs to depth d, words s and cells alike to c, at a last clock of at most t
-pub record Comes (j t : ℕ) (b : Built) (rs : List Record) (d : ℕ) (s : List ℕ) (c : Cells) : Type 0 where
-  pub last : ℕ
-  pub rise : last ≤ t
+-- ---- what is counted at a clock
+
+-- at clock t there are n stack records, of direction w
+pub record Counted (l : Tally) (t n w : ℕ) : Type 0 where
+  pub rise : l .last ≤ t
+  pub stacks : tallyAt l t .stacks ≡ n
+  pub way : (n ≡ 0 → ⊥) → tallyAt l t .way ≡ w
+
+-- no record of the stack or of RAM yet
+pub record Fresh (l : Tally) (t : ℕ) : Type 0 where
+  pub rise : l .last ≤ t
+  pub stacks : tallyAt l t .stacks ≡ 0
+  pub rams : tallyAt l t .rams ≡ 0
+
+-- at a higher clock nothing is counted yet
+pub fresh-next : (l : Tally) (t : ℕ) → l .last < t → Fresh l t
+unfolding tallyAt
+fresh-next l t h =
+    let n : l .last ≡ t → ⊥ = λ e. omega arith in
+    record { rise = omega arith; stacks = rw (ne-eqb (l .last) t n); rams = rw (ne-eqb (l .last) t n) }
+
+pub fresh-first : Fresh (tally 0 0 0 0) 0
+unfolding tallyAt
+fresh-first = record { rise = omega arith; stacks = refl; rams = refl }
+
+tally-same : (t w n m : ℕ) → tallyAt (tally t w n m) t ≡ tally t w n m
+unfolding tallyAt
+tally-same t w n m = rw (eq-eqb t t refl)
+
+ram-rams : (l : Tally) (t : ℕ) → tallyAt (withRam l t) t .rams ≡ tallyAt l t .rams + 1
+unfolding withRam
+ram-rams l t = ap (λ z. z .rams) (tally-same t _ _ _)
+
+ram-counted : {l : Tally} {t w : ℕ} → Counted l t 0 w → Counted (withRam l t) t 0 w
+unfolding withRam
+ram-counted {l} {t} k = record { rise = omega arith; stacks = ap (λ z. z .stacks) (tally-same t _ _ _) ∙ k .stacks; way = λ n. absurd (n refl) }
+
+stack-counted : {l : Tally} {t n w : ℕ} → Counted l t n w → Counted (withStack l t w) t (suc n) w
+unfolding withStack
+stack-counted {l} {t} {n} k =
+    record { rise = omega arith; stacks = ap (λ z. z .stacks) (tally-same t _ _ _) ∙ (omega (arith, k .stacks)); way = λ _. ap (λ z. z .way) (tally-same t _ _ _) }
+
+-- replay comes from b over the records rs to depth d, words s and cells alike to c, with n stack records of direction w at clock t
+record Comes (j t : ℕ) (b : Built) (rs : List Record) (d : ℕ) (s : List ℕ) (c : Cells) (n w : ℕ) : Type 0 where
+  counts : Tally
+  counted : Counted counts t n w
+  now : Cells
+  alike : Alike now c
+  reads : Reads j b rs (built counts d s now)
+
+-- the same, at a last clock of at most t
+pub record Arrives (j t : ℕ) (b : Built) (rs : List Record) (d : ℕ) (s : List ℕ) (c : Cells) : Type 0 where
+  pub counts : Tally
+  pub rise : counts .last ≤ t
   pub now : Cells
   pub alike : Alike now c
-  pub reads : Reads j b rs (built last d s now)
+  pub reads : Reads j b rs (built counts d s now)
 
 -- ---- its records are read
 
@@ -50,85 +100,115 @@ down-small d n b h k = omega arith
 
 module _ (j t : ℕ) (early : t < j) where
   calls-read : {c : Cells} {cs : List Call} → Honest c cs → touched c cs .count ≤ length (c .addresses) →
-      (l d : ℕ) (s : List ℕ) (now : Cells) → Alike now c → l ≤ t → Comes j t (built l d s now) (callRecords t cs) d s (touched c cs)
-  unfolding touched callRecords callRecord
-  calls-read Honest.none f l d s now al h = record { last = l; rise = h; now = now; alike = al; reads = none }
-  calls-read (Honest.resets g) f l d s now al h =
-      let k = calls-read g f l d s now al h in
-      record { last = k .last; rise = k .rise; now = k .now; alike = k .alike; reads = more (other-read j 1 (built l d s now) []) (k .reads) }
-  calls-read (Honest.traces {o = o} {t = x} e g) f l d s now al h =
-      let k = calls-read g f l d s now al h in
-      record { last = k .last; rise = k .rise; now = k .now; alike = k .alike; reads = more (other-read j 2 (built l d s now) (bytesOf 2 o ++ wordsBytes x)) (k .reads) }
-  calls-read (Honest.u32s {o = o} {l = x} {r = y} g) f l d s now al h =
-      let k = calls-read g f l d s now al h in
-      record { last = k .last; rise = k .rise; now = k .now; alike = k .alike; reads = more (other-read j 3 (built l d s now) (bytesOf 2 o ++ bytesOf 8 x ++ bytesOf 8 y)) (k .reads) }
-  calls-read (Honest.reads {a = a} {v = v} q r e g) f l d s now al h =
-      let k = calls-read g f t d s now al (omega arith) in
-      record { last = k .last; rise = k .rise; now = k .now; alike = k .alike; reads = more (ram-read j t (built l d s now) early h a v q r (e ∙ sym (alike-held al a))) (k .reads) }
-  calls-read {c} (Honest.writes {cs = cs} {a = a} {v = v} q r g) f l d s now al h =
+      (l : Tally) (d : ℕ) (s : List ℕ) (now : Cells) (w : ℕ) → Alike now c → Counted l t 0 w → tallyAt l t .rams + ramCalls cs ≤ 10 →
+      Comes j t (built l d s now) (callRecords t cs) d s (touched c cs) 0 w
+  unfolding touched callRecords callRecord ramCalls
+  calls-read Honest.none f l d s now w al h m = record { counts = l; counted = h; now = now; alike = al; reads = none }
+  calls-read (Honest.resets g) f l d s now w al h m =
+      let k = calls-read g f l d s now w al h m in
+      record { counts = k .counts; counted = k .counted; now = k .now; alike = k .alike; reads = more (other-read j 1 (built l d s now) []) (k .reads) }
+  calls-read (Honest.traces {o = o} {t = x} e g) f l d s now w al h m =
+      let k = calls-read g f l d s now w al h m in
+      record { counts = k .counts; counted = k .counted; now = k .now; alike = k .alike; reads = more (other-read j 2 (built l d s now) (bytesOf 2 o ++ wordsBytes x)) (k .reads) }
+  calls-read (Honest.u32s {o = o} {l = x} {r = y} g) f l d s now w al h m =
+      let k = calls-read g f l d s now w al h m in
+      record { counts = k .counts; counted = k .counted; now = k .now; alike = k .alike; reads = more (other-read j 3 (built l d s now) (bytesOf 2 o ++ bytesOf 8 x ++ bytesOf 8 y)) (k .reads) }
+  calls-read (Honest.reads {a = a} {v = v} q r e g) f l d s now w al h m =
+      let k = calls-read g f (withRam l t) d s now w al (ram-counted h) (omega (arith, ram-rams l t, m)) in
+      record {
+        counts = k .counts;
+        counted = k .counted;
+        now = k .now;
+        alike = k .alike;
+        reads = more (ram-read j t (built l d s now) early (h .rise) (omega (arith, m)) a v q r (e ∙ sym (alike-held al a))) (k .reads);
+      }
+  calls-read {c} (Honest.writes {cs = cs} {a = a} {v = v} q r g) f l d s now w al h m =
       let f2 : touched (stored c a v) cs .count ≤ length (stored c a v .addresses) = rw (stored-addresses c a v) f in
       let al2 = alike-stored al a v in
-      let k = calls-read g f2 t d s (stored now a v) al2 (omega arith) in
-      let m : stored now a v .count ≤ length (now .addresses) = omega (arith, touched-more cs (stored c a v), al2 .count, al .room) in
-      record { last = k .last; rise = k .rise; now = k .now; alike = k .alike; reads = more (ram-write j t (built l d s now) early h a v q r m) (k .reads) }
+      let k = calls-read g f2 (withRam l t) d s (stored now a v) w al2 (ram-counted h) (omega (arith, ram-rams l t, m)) in
+      let o : stored now a v .count ≤ length (now .addresses) = omega (arith, touched-more cs (stored c a v), al2 .count, al .room) in
+      record {
+        counts = k .counts;
+        counted = k .counted;
+        now = k .now;
+        alike = k .alike;
+        reads = more (ram-write j t (built l d s now) early (h .rise) (omega (arith, m)) a v q r o) (k .reads);
+      }
 
   module _ (s : List ℕ) (words : Words s) (few : length s ≤ 16777216) (c now : Cells) (al : Alike now c) where
-    growing-read : (d n : ℕ) → 16 ≤ d → d + n ≤ length s → (l : ℕ) → l ≤ t →
-        Comes j t (built l d (under s d) now) (growing t s d n) (d + n) (under s (d + n)) c
-    unfolding growing
-    growing-read d zero low room l h = rw (add-zero d) (record { last = l; rise = h; now = now; alike = al; reads = none })
-    growing-read d (suc n) low room l h =
-        let k = growing-read d n low (omega arith) l h in
-        let e : d + suc n ≡ d + n + 1 = omega arith in
-        let x : 16 ≤ d + n = omega arith in
-        let y : d + n < length s = omega arith in
+    -- one write more
+    grow-one : {b : Built} {rs : List Record} (d n : ℕ) → 16 ≤ d + n → d + n < length s → n < 10 → Comes j t b rs (d + n) (under s (d + n)) c n 1 →
+        Comes j t b (rs ++ (stack t (d + n) 1 (getD s (d + n - 16) 0) ∷ [])) (d + n + 1) (under s (d + n + 1)) c (suc n) 1
+    grow-one d n x y most k =
+        let i : tallyAt (k .counts) t .stacks < 10 = omega (arith, k .counted .stacks) in
         let f : d + n - 15 ≤ length (under s (d + n)) = rw (under-length s (d + n) (omega arith)) (omega arith) in
-        rw (e, ← under-more s (d + n) x y)
+        rw (← under-more s (d + n) x y)
         (record {
-          last = t;
-          rise = omega arith;
+          counts = withStack (k .counts) t 1;
+          counted = stack-counted (k .counted);
           now = k .now;
           alike = k .alike;
           reads =
               reads-snoc (stack t (d + n) 1 (getD s (d + n - 16) 0)) (k .reads)
-              (stack-write j t (built (k .last) (d + n) (under s (d + n)) (k .now)) early (k .rise) (d + n) (getD s (d + n - 16) 0) (omega arith) (words-getD (d + n - 16) words) refl f);
+              (stack-write j t (built (k .counts) (d + n) (under s (d + n)) (k .now)) early (k .counted .rise) i (λ z. k .counted .way (λ u. z (k .counted .stacks ∙ u))) (d + n) (getD s (d + n - 16) 0) (omega arith) (words-getD (d + n - 16) words) refl f);
         })
 
-    shrinking-read : (d n : ℕ) → 16 + n ≤ d → d ≤ length s → (l : ℕ) → l ≤ t →
-        Comes j t (built l d (under s d) now) (shrinking t s d n) (d - n) (under s (d - n)) c
-    unfolding shrinking
-    shrinking-read d zero low room l h = rw (sub-zero d) (record { last = l; rise = h; now = now; alike = al; reads = none })
-    shrinking-read d (suc n) low room l h =
-        let k = shrinking-read d n (omega arith) room l h in
-        let e : d - suc n ≡ d - n - 1 = omega arith in
+    growing-read : (d n : ℕ) → 16 ≤ d → d + n ≤ length s → n ≤ 10 → (l : Tally) → Counted l t 0 1 →
+        Comes j t (built l d (under s d) now) (growing t s d n) (d + n) (under s (d + n)) c n 1
+    unfolding growing
+    growing-read d zero low room most l h = rw (add-zero d) (record { counts = l; counted = h; now = now; alike = al; reads = none })
+    growing-read d (suc n) low room most l h =
+        let e : d + suc n ≡ d + n + 1 = omega arith in
+        subst (λ (z : ℕ). Comes j t (built l d (under s d) now) (growing t s d (suc n)) z (under s z) c (suc n) 1) (sym e)
+        (grow-one d n (omega arith) (omega arith) (omega arith) (growing-read d n low (omega arith) (omega arith) l h))
+
+    -- one read more
+    shrink-one : {b : Built} {rs : List Record} (d n : ℕ) → 17 + n ≤ d → d ≤ length s → n < 10 → Comes j t b rs (d - n) (under s (d - n)) c n 0 →
+        Comes j t b (rs ++ (stack t (d - 1 - n) 0 (getD s (d - 1 - n - 16) 0) ∷ [])) (d - n - 1) (under s (d - n - 1)) c (suc n) 0
+    shrink-one d n g room most k =
         let x : 16 < d - n = omega arith in
         let y : d - n ≤ length s = omega arith in
-        let g : 17 + n ≤ d = omega arith in
-        let f = down-one d n g in
-        rw (e, ← under-less s (d - n) x y, f)
+        let i : tallyAt (k .counts) t .stacks < 10 = omega (arith, k .counted .stacks) in
+        rw (← under-less s (d - n) x y, down-one d n g)
         (record {
-          last = t;
-          rise = omega arith;
+          counts = withStack (k .counts) t 0;
+          counted = stack-counted (k .counted);
           now = k .now;
           alike = k .alike;
           reads =
               reads-snoc (stack t (d - 1 - n) 0 (getD s (d - n - 17) 0)) (k .reads)
-              (stack-read j t (built (k .last) (d - n) (under s (d - n)) (k .now)) early (k .rise) (d - 1 - n) (getD s (d - n - 17) 0) (down-small d n (length s) room few) (words-getD (d - n - 17) words) x (down-two d n g) (sym (under-top s (d - n) x y)));
+              (stack-read j t (built (k .counts) (d - n) (under s (d - n)) (k .now)) early (k .counted .rise) i (λ z. k .counted .way (λ u. z (k .counted .stacks ∙ u))) (d - 1 - n) (getD s (d - n - 17) 0) (down-small d n (length s) room few) (words-getD (d - n - 17) words) x (down-two d n g) (sym (under-top s (d - n) x y)));
         })
 
-grows-read : (j t : ℕ) → t < j → (s s2 : List ℕ) → Words s2 → length s2 ≤ 16777216 → (c now : Cells) → Alike now c → (d d2 : ℕ) → 16 ≤ d → d ≤ d2 → d2 ≤ length s2 → (l : ℕ) → l ≤ t →
-    Comes j t (built l d (under s2 d) now) (stackRecords t s s2 d d2) d2 (under s2 d2) c
-grows-read j t early s s2 b m c now al d d2 low o high l h =
+    shrinking-read : (d n : ℕ) → 16 + n ≤ d → d ≤ length s → n ≤ 10 → (l : Tally) → Counted l t 0 0 →
+        Comes j t (built l d (under s d) now) (shrinking t s d n) (d - n) (under s (d - n)) c n 0
+    unfolding shrinking
+    shrinking-read d zero low room most l h = rw (sub-zero d) (record { counts = l; counted = h; now = now; alike = al; reads = none })
+    shrinking-read d (suc n) low room most l h =
+        let e : d - suc n ≡ d - n - 1 = omega arith in
+        subst (λ (z : ℕ). Comes j t (built l d (under s d) now) (shrinking t s d (suc n)) z (under s z) c (suc n) 0) (sym e)
+        (shrink-one d n (omega arith) room (omega arith) (shrinking-read d n (omega arith) room (omega arith) l h))
+
+arrives : {j t : ℕ} {b : Built} {rs : List Record} {d : ℕ} {s : List ℕ} {c : Cells} {n w : ℕ} → Comes j t b rs d s c n w → Arrives j t b rs d s c
+arrives k = record { counts = k .counts; rise = k .counted .rise; now = k .now; alike = k .alike; reads = k .reads }
+
+-- of either direction, where none is there yet
+recounted : {l : Tally} {t w : ℕ} (x : ℕ) → Counted l t 0 w → Counted l t 0 x
+recounted x k = record { rise = k .rise; stacks = k .stacks; way = λ n. absurd (n refl) }
+
+grows-read : (j t : ℕ) → t < j → (s s2 : List ℕ) → Words s2 → length s2 ≤ 16777216 → (c now : Cells) → Alike now c → (d d2 : ℕ) → 16 ≤ d → d ≤ d2 → d2 ≤ length s2 → d2 ≤ d + 10 →
+    (l : Tally) → Counted l t 0 1 → Arrives j t (built l d (under s2 d) now) (stackRecords t s s2 d d2) d2 (under s2 d2) c
+grows-read j t early s s2 b m c now al d d2 low o high most l h =
     let y : d + (d2 - d) ≡ d2 = omega arith in
     let r : d + (d2 - d) ≤ length s2 = omega arith in
-    rw (stack-grows t s s2 d d2 o) (rw y at (growing-read j t early s2 b m c now al d (d2 - d) low r l h))
+    rw (stack-grows t s s2 d d2 o) (rw y at (arrives (growing-read j t early s2 b m c now al d (d2 - d) low r (omega arith) l h)))
 
-shrinks-read : (j t : ℕ) → t < j → (s s2 : List ℕ) → Words s → length s ≤ 16777216 → (c now : Cells) → Alike now c → (d d2 : ℕ) → 16 ≤ d2 → d2 ≤ d → d ≤ length s → (l : ℕ) → l ≤ t →
-    Comes j t (built l d (under s d) now) (stackRecords t s s2 d d2) d2 (under s d2) c
-shrinks-read j t early s s2 b m c now al d d2 low o high l h =
+shrinks-read : (j t : ℕ) → t < j → (s s2 : List ℕ) → Words s → length s ≤ 16777216 → (c now : Cells) → Alike now c → (d d2 : ℕ) → 16 ≤ d2 → d2 ≤ d → d ≤ length s → d ≤ d2 + 10 →
+    (l : Tally) → Counted l t 0 0 → Arrives j t (built l d (under s d) now) (stackRecords t s s2 d d2) d2 (under s d2) c
+shrinks-read j t early s s2 b m c now al d d2 low o high most l h =
     let y : d - (d - d2) ≡ d2 = omega arith in
     let r : 16 + (d - d2) ≤ d = omega arith in
-    rw (stack-shrinks t s s2 d d2 o) (rw y at (shrinking-read j t early s b m c now al d (d - d2) r high l h))
+    rw (stack-shrinks t s s2 d d2 o) (rw y at (arrives (shrinking-read j t early s b m c now al d (d - d2) r high (omega arith) l h)))
 
 -- ---- and are as its clock and words have them
 
@@ -184,14 +264,14 @@ module _ (m : Machine) (e : Effect) (sound : Sound m) (facts : Facts m e) (fits 
       (sym (applied-below (m .memory .opStack) (e .words) (m .state .depth) (e .pops) deep-enough (sound .opStack .used) (fits .depth) (n - 16) h))
       (sym same-length)
 
-  stack-reads : (j : ℕ) → m .state .clock < j → (c now : Cells) → Alike now c → (l : ℕ) → l ≤ m .state .clock →
-      Comes j (m .state .clock) (built l (m .state .depth) (under (m .memory .opStack) (m .state .depth)) now)
+  stack-reads : (j : ℕ) → m .state .clock < j → (c now : Cells) → Alike now c → (l : Tally) → Counted l (m .state .clock) 0 1 →
+      Arrives j (m .state .clock) (built l (m .state .depth) (under (m .memory .opStack) (m .state .depth)) now)
       (stackRecords (m .state .clock) (m .memory .opStack) (stackAfter m e) (m .state .depth) (depthAfter m e))
       (depthAfter m e) (under (stackAfter m e) (depthAfter m e)) c
   stack-reads j early c now al l h = go (leb (m .state .depth) (depthAfter m e)) refl
     where
       go : (x : Bool) → leb (m .state .depth) (depthAfter m e) ≡ x →
-          Comes j (m .state .clock) (built l (m .state .depth) (under (m .memory .opStack) (m .state .depth)) now)
+          Arrives j (m .state .clock) (built l (m .state .depth) (under (m .memory .opStack) (m .state .depth)) now)
           (stackRecords (m .state .clock) (m .memory .opStack) (stackAfter m e) (m .state .depth) (depthAfter m e))
           (depthAfter m e) (under (stackAfter m e) (depthAfter m e)) c
       go true q =
@@ -199,22 +279,23 @@ module _ (m : Machine) (e : Effect) (sound : Sound m) (facts : Facts m e) (fits 
           let r : depthAfter m e ≤ length (stackAfter m e) = rw same-length (fits .depth) in
           let u : m .state .depth - 16 ≤ m .state .depth - e .pops = omega (arith, facts .pops) in
           rw (same-under (m .state .depth) u)
-          (grows-read j (m .state .clock) early (m .memory .opStack) (stackAfter m e) after-words b c now al (m .state .depth) (depthAfter m e) (sound .deep) (leb-true (m .state .depth) (depthAfter m e) q) r l h)
+          (grows-read j (m .state .clock) early (m .memory .opStack) (stackAfter m e) after-words b c now al (m .state .depth) (depthAfter m e) (sound .deep) (leb-true (m .state .depth) (depthAfter m e) q) r (omega (arith, facts .grows, deep-enough)) l h)
       go false q =
           let o : depthAfter m e < m .state .depth = leb-false (m .state .depth) (depthAfter m e) q in
           let u : depthAfter m e - 16 ≤ m .state .depth - e .pops = omega (arith, facts .pops, sound .deep) in
           let k : 16 ≤ depthAfter m e = omega (arith, facts .pops, facts .deep, sound .deep) in
           rw (← same-under (depthAfter m e) u)
-          (shrinks-read j (m .state .clock) early (m .memory .opStack) (stackAfter m e) (sound .opStack .words) (sound .opStack .few) c now al (m .state .depth) (depthAfter m e) k (omega arith) (sound .opStack .used) l h)
+          (shrinks-read j (m .state .clock) early (m .memory .opStack) (stackAfter m e) (sound .opStack .words) (sound .opStack .few) c now al (m .state .depth) (depthAfter m e) k (omega arith) (sound .opStack .used) (omega (arith, facts .shrinks, deep-enough)) l (recounted 0 h))
 
-  pub step-reads : (j : ℕ) → m .state .clock < j → (now : Cells) → Alike now (M.ram m) → (l : ℕ) → l ≤ m .state .clock →
-      Comes j (m .state .clock) (built l (m .state .depth) (under (m .memory .opStack) (m .state .depth)) now) (recordsOf m e)
+  pub step-reads : (j : ℕ) → m .state .clock < j → (now : Cells) → Alike now (M.ram m) → (l : Tally) → Fresh l (m .state .clock) →
+      Arrives j (m .state .clock) (built l (m .state .depth) (under (m .memory .opStack) (m .state .depth)) now) (recordsOf m e)
       (depthAfter m e) (under (stackAfter m e) (depthAfter m e)) (ramAfter m e)
   unfolding recordsOf
   step-reads j early now al l h =
-      let a = calls-read j (m .state .clock) early (facts .calls) (fits .cells) l (m .state .depth) (under (m .memory .opStack) (m .state .depth)) now al h in
-      let b = stack-reads j early (ramAfter m e) (a .now) (a .alike) (a .last) (a .rise) in
-      record { last = b .last; rise = b .rise; now = b .now; alike = b .alike; reads = reads-append (a .reads) (b .reads) }
+      let n : Counted l (m .state .clock) 0 1 = record { rise = h .rise; stacks = h .stacks; way = λ z. absurd (z refl) } in
+      let a = calls-read j (m .state .clock) early (facts .calls) (fits .cells) l (m .state .depth) (under (m .memory .opStack) (m .state .depth)) now 1 al n (omega (arith, h .rams, facts .accesses)) in
+      let b = stack-reads j early (ramAfter m e) (a .now) (a .alike) (a .counts) (a .counted) in
+      record { counts = b .counts; rise = b .rise; now = b .now; alike = b .alike; reads = reads-append (a .reads) (b .reads) }
 
   pub step-fine : All (Fine (m .state .clock)) (recordsOf m e)
   unfolding recordsOf stackRecords

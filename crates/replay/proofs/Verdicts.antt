@@ -1,20 +1,20 @@
 -- What replay does with one record, and with records in a row. Assumes nothing.
-use mathlib.Core.Path.{_≡_, refl, ap, _∙_}
+use mathlib.Core.Path.{_≡_, refl, sym, ap, _∙_}
 use mathlib.Core.Bool.{Bool, true, false}
 use mathlib.Core.List.{List, [], _∷_, _++_}
 use Prim.Native.Nat.{ℕ, _+_, _-_, _≤_, _<_}
 use native.Mathlib.Omega.{arith}
-use borrow.Author.Tests.{eq-eqb, ne-eqb, lt-ltb, le-ltb, eqb-true, ltb-true}
+use borrow.Author.Tests.{eq-eqb, ne-eqb, lt-ltb, le-ltb, eqb-true, eqb-false, ltb-true}
 use lib.ListN.{length, getD, set}
 use lib.Dec.{eqb, ltb}
 use Rattle.machine.specs.Words.{p}
-use Rattle.choices.specs.Choice.{cond, firstOf, aboveOf}
+use Rattle.choices.specs.Choice.{cond, firstOf, differOf}
 use Rattle.machine.specs.Ram.{held, stored}
 use Rattle.machine.specs.Bytes.{bytesOf}
 use Rattle.machine.specs.Records.{Record, other, stack, ram}
 use Rattle.choices.proofs.Choice.{first-zero, above-not, differ-not}
 use Rattle.machine.proofs.Bytes.{is-word-of}
-use Rattle.replay.specs.Replay.{Built, built, word40, fields40, stackFault, ramFault, stackTurn, ramTurn, stops, wrong, goes, judged, readOf, fine, onward, replayRecords}
+use Rattle.replay.specs.Replay.{Tally, tallyAt, withStack, withRam, Built, built, word40, fields40, clock41, stack45, ram45, stackFault, ramFault, stackTurn, ramTurn, stops, wrong, goes, judged, readOf, fine, onward, replayRecords}
 
 -- ---- records in a row
 
@@ -87,8 +87,8 @@ replay-late j b (r ∷ rs) (more p h) = go r p (replay-late j b rs h)
   where
     go : (x : Record) → Late j x → replayRecords j b rs ≡ fine b → replayRecords j b (x ∷ rs) ≡ fine b
     go (other k s) late-other e = e
-    go (stack t q d v) (late-stack l) e = ap (onward b (λ x. replayRecords j x rs)) (judged-stops j t (firstOf (fields40 d q v) (firstOf (aboveOf (b .last) t 41) (stackFault b q d v))) (stackTurn b t d v) l)
-    go (ram t a v d) (late-ram l) e = ap (onward b (λ x. replayRecords j x rs)) (judged-stops j t (firstOf (fields40 d a v) (firstOf (aboveOf (b .last) t 41) (ramFault b a v d))) (ramTurn b t a v d) l)
+    go (stack t q d v) (late-stack l) e = ap (onward b (λ x. replayRecords j x rs)) (judged-stops j t (firstOf (fields40 d q v) (firstOf (clock41 (b .counts) t) (stackFault b t q d v))) (stackTurn b t d v) l)
+    go (ram t a v d) (late-ram l) e = ap (onward b (λ x. replayRecords j x rs)) (judged-stops j t (firstOf (fields40 d a v) (firstOf (clock41 (b .counts) t) (ramFault b t a v d))) (ramTurn b t a v d) l)
 
 -- ---- a record without a fault
 
@@ -112,33 +112,55 @@ fields-fine : (d q v : ℕ) → d ≤ 1 → q < p → v < p → fields40 d q v �
 unfolding fields40
 fields-fine d q v h k l = first-zero _ _ (above-not d 1 40 h) ∙ first-zero _ _ (word-fine q k) ∙ word-fine v l
 
-module _ (j t : ℕ) (b : Built) (early : t < j) (rise : b .last ≤ t) where
-  faultless : (d q v n : ℕ) → d ≤ 1 → q < p → v < p → n ≡ 0 → firstOf (fields40 d q v) (firstOf (aboveOf (b .last) t 41) n) ≡ 0
-  faultless d q v n h k l e = first-zero _ _ (fields-fine d q v h k l) ∙ first-zero _ _ (above-not (b .last) t 41 rise) ∙ e
+-- no fault 45 where there are fewer than ten, of one direction
+stack45-fine : (n : Tally) (t d : ℕ) → tallyAt n t .stacks < 10 → ((tallyAt n t .stacks ≡ 0 → ⊥) → tallyAt n t .way ≡ d) → stack45 n t d ≡ 0
+unfolding stack45
+stack45-fine n t d few way = first-zero _ _ (go (eqb (tallyAt n t .stacks) 0) refl) ∙ above-not (tallyAt n t .stacks + 1) 10 45 (omega arith)
+  where
+    go : (x : Bool) → eqb (tallyAt n t .stacks) 0 ≡ x → cond x 0 (differOf d (tallyAt n t .way) 45) ≡ 0
+    go true e = refl
+    go false e = differ-not d (tallyAt n t .way) 45 (sym (way (eqb-false (tallyAt n t .stacks) 0 e)))
 
-  pub ram-read : (a v : ℕ) → a < p → v < p → v ≡ held (b .cells) a →
-      readOf j b (ram t a v 0) ≡ goes (built t (b .depth) (b .words) (b .cells))
-  unfolding readOf ramFault ramTurn
-  ram-read a v h k e = judged-goes j t _ _ early (faultless 0 a v _ (omega arith) h k (differ-not v (held (b .cells) a) 43 e))
+ram45-fine : (n : Tally) (t : ℕ) → tallyAt n t .rams < 10 → ram45 n t ≡ 0
+unfolding ram45
+ram45-fine n t few = above-not (tallyAt n t .rams + 1) 10 45 (omega arith)
 
-  pub ram-write : (a v : ℕ) → a < p → v < p → stored (b .cells) a v .count ≤ length (b .cells .addresses) →
-      readOf j b (ram t a v 1) ≡ goes (built t (b .depth) (b .words) (stored (b .cells) a v))
-  unfolding readOf ramFault ramTurn
-  ram-write a v h k e = judged-goes j t _ _ early (faultless 1 a v _ (omega arith) h k (above-not (stored (b .cells) a v .count) (length (b .cells .addresses)) 44 e))
+module _ (j t : ℕ) (b : Built) (early : t < j) (rise : b .counts .last ≤ t) where
+  faultless : (d q v n : ℕ) → d ≤ 1 → q < p → v < p → n ≡ 0 → firstOf (fields40 d q v) (firstOf (clock41 (b .counts) t) n) ≡ 0
+  unfolding clock41
+  faultless d q v n h k l e = first-zero _ _ (fields-fine d q v h k l) ∙ first-zero _ _ (above-not (b .counts .last) t 41 rise) ∙ e
 
-  pub stack-read : (q v : ℕ) → q < p → v < p → 16 < b .depth → q + 1 ≡ b .depth → v ≡ getD (b .words) (b .depth - 17) 0 →
-      readOf j b (stack t q 0 v) ≡ goes (built t (b .depth - 1) (set (b .words) (b .depth - 17) 0) (b .cells))
-  unfolding readOf stackFault stackTurn
-  stack-read q v h k l e f =
-      judged-goes j t _ _ early
-      (faultless 0 q v _ (omega arith) h k
-      (first-zero _ _ (above-not 17 (b .depth) 42 l) ∙ first-zero _ _ (differ-not (q + 1) (b .depth) 42 e) ∙ differ-not v (getD (b .words) (b .depth - 17) 0) 43 f))
+  module _ (few : tallyAt (b .counts) t .rams < 10) where
+    pub ram-read : (a v : ℕ) → a < p → v < p → v ≡ held (b .cells) a →
+        readOf j b (ram t a v 0) ≡ goes (built (withRam (b .counts) t) (b .depth) (b .words) (b .cells))
+    unfolding readOf ramFault ramTurn
+    ram-read a v h k e = judged-goes j t _ _ early (faultless 0 a v _ (omega arith) h k (first-zero _ _ (differ-not v (held (b .cells) a) 43 e) ∙ ram45-fine (b .counts) t few))
 
-  pub stack-write : (q v : ℕ) → q < p → v < p → q ≡ b .depth → b .depth - 15 ≤ length (b .words) →
-      readOf j b (stack t q 1 v) ≡ goes (built t (b .depth + 1) (set (b .words) (b .depth - 16) v) (b .cells))
-  unfolding readOf stackFault stackTurn
-  stack-write q v h k e f =
-      judged-goes j t _ _ early (faultless 1 q v _ (omega arith) h k (first-zero _ _ (differ-not q (b .depth) 42 e) ∙ above-not (b .depth - 15) (length (b .words)) 44 f))
+    pub ram-write : (a v : ℕ) → a < p → v < p → stored (b .cells) a v .count ≤ length (b .cells .addresses) →
+        readOf j b (ram t a v 1) ≡ goes (built (withRam (b .counts) t) (b .depth) (b .words) (stored (b .cells) a v))
+    unfolding readOf ramFault ramTurn
+    ram-write a v h k e =
+        judged-goes j t _ _ early
+        (faultless 1 a v _ (omega arith) h k (first-zero _ _ (ram45-fine (b .counts) t few) ∙ above-not (stored (b .cells) a v .count) (length (b .cells .addresses)) 44 e))
+
+  module _ (few : tallyAt (b .counts) t .stacks < 10) where
+    pub stack-read : ((tallyAt (b .counts) t .stacks ≡ 0 → ⊥) → tallyAt (b .counts) t .way ≡ 0) → (q v : ℕ) → q < p → v < p → 16 < b .depth → q + 1 ≡ b .depth →
+        v ≡ getD (b .words) (b .depth - 17) 0 →
+        readOf j b (stack t q 0 v) ≡ goes (built (withStack (b .counts) t 0) (b .depth - 1) (set (b .words) (b .depth - 17) 0) (b .cells))
+    unfolding readOf stackFault stackTurn
+    stack-read way q v h k l e f =
+        judged-goes j t _ _ early
+        (faultless 0 q v _ (omega arith) h k
+        (first-zero _ _ (above-not 17 (b .depth) 42 l) ∙ first-zero _ _ (differ-not (q + 1) (b .depth) 42 e) ∙ first-zero _ _ (differ-not v (getD (b .words) (b .depth - 17) 0) 43 f)
+        ∙ stack45-fine (b .counts) t 0 few way))
+
+    pub stack-write : ((tallyAt (b .counts) t .stacks ≡ 0 → ⊥) → tallyAt (b .counts) t .way ≡ 1) → (q v : ℕ) → q < p → v < p → q ≡ b .depth → b .depth - 15 ≤ length (b .words) →
+        readOf j b (stack t q 1 v) ≡ goes (built (withStack (b .counts) t 1) (b .depth + 1) (set (b .words) (b .depth - 16) v) (b .cells))
+    unfolding readOf stackFault stackTurn
+    stack-write way q v h k e f =
+        judged-goes j t _ _ early
+        (faultless 1 q v _ (omega arith) h k
+        (first-zero _ _ (differ-not q (b .depth) 42 e) ∙ first-zero _ _ (stack45-fine (b .counts) t 1 few way) ∙ above-not (b .depth - 15) (length (b .words)) 44 f))
 
 pub other-read : (j k : ℕ) (b : Built) (s : List ℕ) → readOf j b (other k s) ≡ goes b
 unfolding readOf

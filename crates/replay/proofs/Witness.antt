@@ -1,15 +1,15 @@
 -- Demand 3 is not empty: its case is met by a job with a refused call, runs, calls of trace_execution and a read of the op stack, and both halves
--- compute on it. Assumes nothing.
+-- compute on it. And a log that no job writes. Assumes nothing.
 use mathlib.Core.Path.{_≡_, refl, ap, _∙_}
 use mathlib.Core.List.{List, [], _∷_, _++_}
-use Prim.Native.Nat.{ℕ, _≤_, _<_}
+use Prim.Native.Nat.{ℕ, _≤_}
 use native.Mathlib.Omega.{arith}
 use lib.ListN.{length, replicate}
 use lib.Dec.{lit≤, lit<}
 use Rattle.choices.specs.Choice.{cond, firstOf, aboveOf, differOf}
 use Rattle.machine.specs.Bytes.{Bytes, none, more, bytesOf, belowFrom, isWord}
 use Rattle.machine.specs.Words.{wordOf2, wordsOf, zerosFrom}
-use Rattle.machine.specs.Ram.{placeFrom, placeOf, standsAt, find, held, cells1, cells2, cells5, fallOf, fallsOf}
+use Rattle.machine.specs.Ram.{cells, placeFrom, placeOf, standsAt, find, held, cells1, cells2, cells5, fallOf, fallsOf}
 use Rattle.machine.specs.Instruction.{table, decode, sizeOf}
 use Rattle.machine.specs.Machine.{Machine, Code, Memory, code, memory, topOf}
 use Rattle.machine.specs.Machine as M
@@ -25,6 +25,7 @@ use Rattle.machine.specs.Run.{traceA, runBy, traceBy}
 use Rattle.machine.specs.Records.{stack, callRecords, growing, shrinking, stackRecords, recordsOf, recordBytes, logBytes}
 use Rattle.machine.proofs.RamLaws.{alike-same}
 use Rattle.replay.specs.Job.{Ask, step, run, trace, askOf, jobOf, recordsOfJob, machineAt}
+use Rattle.replay.specs.Replay.{tallyAt, withStack, started, word40, fields40, clock41, stack45, stackFault, stackTurn, judged, readOf, bad, replayRecords}
 use Rattle.replay.specs.Demand3.{Rebuilt, ofStack, altered, replayed, Case}
 use Rattle.replay.proofs.Triton.{demand-3-of-triton}
 
@@ -101,3 +102,8 @@ pub our-detected : replayed our (M.ram our) (logBytes (stack 0 16 1 5 ∷ []) ++
 our-detected =
     ap (λ r. r .number) (demand-3-of-triton .detects our (M.ram our) asks 2 our-case (stack 0 16 1 5 ∷ []) [] (stack 1 16 0 5) 5 six our-records (ofStack (lit< tt)) six-bytes refl six-other)
     ∙ six-word
+
+-- a stack write and the matching read within one clock, as a log stitched from two executions has them: no job's, and refused with 45
+pub spliced : replayRecords 1 (started (0 ∷ 0 ∷ []) (cells 0 [] [])) (stack 0 16 1 5 ∷ stack 0 16 0 5 ∷ []) ≡ bad 45
+unfolding replayRecords readOf judged fields40 word40 isWord belowFrom bytesOf clock41 stackFault stackTurn stack45 tallyAt withStack firstOf aboveOf differOf
+spliced = refl

@@ -10,15 +10,40 @@ use Rattle.machine.specs.Bytes.{bytesOf, isWord}
 use Rattle.machine.specs.Records.{Record, other, stack, ram, Parsed, ended, broken, found, parse}
 use Rattle.machine.specs.PlaceA.{tooLong}
 
--- what replay has rebuilt so far, and the last clock
-pub record Built : Type 0 where
+-- what has been read at the last clock: the direction of its stack records, and how many records are of the stack and of RAM
+pub record Tally : Type 0 where
   pub last : ℕ
+  pub way : ℕ
+  pub stacks : ℕ
+  pub rams : ℕ
+
+abbrev pub tally : ℕ → ℕ → ℕ → ℕ → Tally
+tally t w n m = record { last = t; way = w; stacks = n; rams = m }
+
+-- at clock t: counting starts anew where that is not the last one
+unfoldable pub tallyAt : Tally → ℕ → Tally
+tallyAt n t = cond (eqb (n .last) t) n (tally t 0 0 0)
+
+-- and one record more
+unfoldable pub withStack : Tally → ℕ → ℕ → Tally
+withStack n t d = tally t d (tallyAt n t .stacks + 1) (tallyAt n t .rams)
+
+unfoldable pub withRam : Tally → ℕ → Tally
+withRam n t = tally t (tallyAt n t .way) (tallyAt n t .stacks) (tallyAt n t .rams + 1)
+
+-- what replay has rebuilt so far, and what it has read at the last clock
+pub record Built : Type 0 where
+  pub counts : Tally
   pub depth : ℕ
   pub words : List ℕ
   pub cells : Cells
 
-abbrev pub built : ℕ → ℕ → List ℕ → Cells → Built
-built t d s c = record { last = t; depth = d; words = s; cells = c }
+abbrev pub built : Tally → ℕ → List ℕ → Cells → Built
+built n d s c = record { counts = n; depth = d; words = s; cells = c }
+
+-- before the first record
+abbrev pub started : List ℕ → Cells → Built
+started s c = built (tally 0 0 0 0) 16 s c
 
 -- ---- the faults of a record, in order; 0 where there is none
 
@@ -30,27 +55,44 @@ word40 b = cond (isWord b) 0 40
 unfoldable pub fields40 : ℕ → ℕ → ℕ → ℕ
 fields40 d q v = firstOf (aboveOf d 1 40) (firstOf (word40 (bytesOf 8 q)) (word40 (bytesOf 8 v)))
 
--- 42 to 44 of a stack record with pointer q, direction and value v. A read needs depth above 16 and the pointer below it,
--- and the word that stands there; a write needs the depth as its pointer, and room
-unfoldable pub stackFault : Built → ℕ → ℕ → ℕ → ℕ
-stackFault b q zero v = firstOf (aboveOf 17 (b .depth) 42) (firstOf (differOf (q + 1) (b .depth) 42) (differOf v (getD (b .words) (b .depth - 17) 0) 43))
-stackFault b q (suc d) v = firstOf (differOf q (b .depth) 42) (aboveOf (b .depth - 15) (length (b .words)) 44)
+-- 41: clocks must not fall
+unfoldable pub clock41 : Tally → ℕ → ℕ
+clock41 n t = aboveOf (n .last) t 41
 
--- 43 and 44 of a RAM record: a read needs the word held, a write a cell
-unfoldable pub ramFault : Built → ℕ → ℕ → ℕ → ℕ
-ramFault b a v zero = differOf v (held (b .cells) a) 43
-ramFault b a v (suc d) = aboveOf (stored (b .cells) a v .count) (length (b .cells .addresses)) 44
+-- 'within one clock the stack records must all go one way and number at most ten, and RAM records at most ten'
+abbrev pub mostRecords : ℕ
+mostRecords = 10
+
+-- 45: a stack record of direction d at clock t, where the first one there has the other, or there are ten
+unfoldable pub stack45 : Tally → ℕ → ℕ → ℕ
+stack45 n t d = firstOf (cond (eqb (tallyAt n t .stacks) 0) 0 (differOf d (tallyAt n t .way) 45)) (aboveOf (tallyAt n t .stacks + 1) mostRecords 45)
+
+-- 45: a RAM record at clock t, where there are ten
+unfoldable pub ram45 : Tally → ℕ → ℕ
+ram45 n t = aboveOf (tallyAt n t .rams + 1) mostRecords 45
+
+-- 42 to 45 of a stack record at clock t with pointer q, direction and value v. A read needs depth above 16 and the pointer below it,
+-- and the word that stands there; a write needs the depth as its pointer, and room
+unfoldable pub stackFault : Built → ℕ → ℕ → ℕ → ℕ → ℕ
+stackFault b t q zero v =
+    firstOf (aboveOf 17 (b .depth) 42) (firstOf (differOf (q + 1) (b .depth) 42) (firstOf (differOf v (getD (b .words) (b .depth - 17) 0) 43) (stack45 (b .counts) t 0)))
+stackFault b t q (suc d) v = firstOf (differOf q (b .depth) 42) (firstOf (stack45 (b .counts) t (suc d)) (aboveOf (b .depth - 15) (length (b .words)) 44))
+
+-- 43 to 45 of a RAM record: a read needs the word held, a write a cell
+unfoldable pub ramFault : Built → ℕ → ℕ → ℕ → ℕ → ℕ
+ramFault b t a v zero = firstOf (differOf v (held (b .cells) a) 43) (ram45 (b .counts) t)
+ramFault b t a v (suc d) = firstOf (ram45 (b .counts) t) (aboveOf (stored (b .cells) a v .count) (length (b .cells .addresses)) 44)
 
 -- ---- what a record without a fault makes of it
 
 -- a dropped word becomes 0
 unfoldable pub stackTurn : Built → ℕ → ℕ → ℕ → Built
-stackTurn b t zero v = built t (b .depth - 1) (set (b .words) (b .depth - 17) 0) (b .cells)
-stackTurn b t (suc d) v = built t (b .depth + 1) (set (b .words) (b .depth - 16) v) (b .cells)
+stackTurn b t zero v = built (withStack (b .counts) t 0) (b .depth - 1) (set (b .words) (b .depth - 17) 0) (b .cells)
+stackTurn b t (suc d) v = built (withStack (b .counts) t (suc d)) (b .depth + 1) (set (b .words) (b .depth - 16) v) (b .cells)
 
 unfoldable pub ramTurn : Built → ℕ → ℕ → ℕ → ℕ → Built
-ramTurn b t a v zero = built t (b .depth) (b .words) (b .cells)
-ramTurn b t a v (suc d) = built t (b .depth) (b .words) (stored (b .cells) a v)
+ramTurn b t a v zero = built (withRam (b .counts) t) (b .depth) (b .words) (b .cells)
+ramTurn b t a v (suc d) = built (withRam (b .counts) t) (b .depth) (b .words) (stored (b .cells) a v)
 
 -- ---- one record
 
@@ -64,11 +106,10 @@ pub data Verdict : Type 0 where
 unfoldable pub judged : ℕ → ℕ → ℕ → Built → Verdict
 judged j t n b = cond (ltb t j) (cond (eqb n 0) (goes b) (wrong n)) stops
 
--- 41: clocks must not fall
 unfoldable pub readOf : ℕ → Built → Record → Verdict
 readOf j b (other k s) = goes b
-readOf j b (stack t q d v) = judged j t (firstOf (fields40 d q v) (firstOf (aboveOf (b .last) t 41) (stackFault b q d v))) (stackTurn b t d v)
-readOf j b (ram t a v d) = judged j t (firstOf (fields40 d a v) (firstOf (aboveOf (b .last) t 41) (ramFault b a v d))) (ramTurn b t a v d)
+readOf j b (stack t q d v) = judged j t (firstOf (fields40 d q v) (firstOf (clock41 (b .counts) t) (stackFault b t q d v))) (stackTurn b t d v)
+readOf j b (ram t a v d) = judged j t (firstOf (fields40 d a v) (firstOf (clock41 (b .counts) t) (ramFault b t a v d))) (ramTurn b t a v d)
 
 -- ---- all records
 
@@ -127,5 +168,5 @@ replayA log c s = firstIn (firstIn (tooLong log ∷ cells1 c ∷ tooLong s ∷ [
 unfoldable pub replayOf : List ℕ → Cells → List ℕ → ℕ → Replayed
 replayOf log c s j =
     cond (eqb (replayA log c s) 0)
-    (finished (replayBytes (length log) j (built 0 16 s c) log) s c)
+    (finished (replayBytes (length log) j (started s c) log) s c)
     (refuses (replayA log c s) s c)

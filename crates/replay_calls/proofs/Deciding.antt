@@ -13,7 +13,7 @@ use Rattle.machine.specs.Records.{Record, stack}
 use Rattle.replay_group.specs.declared.group.Sweep.{Sweep}
 use Rattle.replay_scan.specs.declared.scan.Scan.{Scan}
 use Rattle.replay_calls.specs.declared.call.Answer.{Answer}
-use Rattle.replay.specs.Replay.{built, Went, bad, fine, gives, refuses, finished, replayA, replayOf}
+use Rattle.replay.specs.Replay.{started, Went, bad, fine, finished, replayA, replayOf}
 use Rattle.replay_scan.specs.Walk.{Walk, Walked}
 use Rattle.replay_table.specs.Group.{Right, RightAt, WrongAt, Stop, at-end, at-wrong, cellsIn}
 use Rattle.replay_table.specs.Merge.{Sorted}
@@ -176,7 +176,7 @@ module _ (log s after : List ℕ) (c : Cells) (j fault n : ℕ) (scan : Scan) (f
   open-cells : Sorted c
   open-cells = opens log s c fault fault-is nothing
 
-  whole-answer : (w : Went) → replayFrom j (built 0 16 s c) log ≡ w → replayOf log c s j ≡ finished w s c
+  whole-answer : (w : Went) → replayFrom j (started s c) log ≡ w → replayOf log c s j ≡ finished w s c
   unfolding replayOf replayFrom
   whole-answer w e = let z : replayA log c s ≡ 0 = sym fault-is ∙ nothing in rw (z, e)
 

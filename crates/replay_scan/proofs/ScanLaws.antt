@@ -1,10 +1,10 @@
 -- A scan's faults are those of the definition, and a record's turn is its verdict. Assumes nothing.
-use mathlib.Core.Path.{_≡_, refl, sym, _∙_}
+use mathlib.Core.Path.{_≡_, refl, sym, ap, _∙_}
 use mathlib.Core.Bool.{Bool, true, false}
 use mathlib.Core.List.{List, []}
 use Prim.Native.Nat.{ℕ, zero, suc, _+_, _-_, _≤_, _<_}
 use native.Mathlib.Omega.{arith}
-use borrow.Author.Tests.{ne-eqb, ltb-true, ltb-false, eqb-true, eqb-false}
+use borrow.Author.Tests.{eq-eqb, ne-eqb, ltb-true, ltb-false, eqb-true, eqb-false}
 use lib.ListN.{length, drop, getD, set, length-set}
 use lib.Dec.{eqb, ltb}
 use Rattle.choices.specs.Choice.{cond, firstOf, aboveOf, differOf}
@@ -15,11 +15,12 @@ use Rattle.machine.specs.Records.{Record, other, stack, ram, lengthOf, recordOf
 use Rattle.choices.proofs.Choice.{first-zero, first-left, first-nil, above-is, above-not, above-nil, differ-is, differ-not}
 use Rattle.machine.proofs.Bytes.{is-word-of}
 use Rattle.replay_scan.specs.declared.record.Fields.{Fields}
+use Rattle.replay_scan.specs.declared.scan.Counts.{Counts}
 use Rattle.replay_scan.specs.declared.scan.Turn.{Turn}
-use Rattle.replay.specs.Replay.{Built, built, word40, fields40, stackFault, stackTurn, judged}
+use Rattle.replay.specs.Replay.{Tally, tally, tallyAt, withStack, withRam, Built, built, word40, fields40, clock41, mostRecords, stack45, ram45, stackFault, stackTurn, judged}
 use Rattle.replay_scan.specs.RecordView.{recordAt, OfStack, OfRam}
-use Rattle.replay_scan.specs.Scan.{restOf, Fine, of-other, of-stack, of-ram, ramIn}
-use Rattle.replay_scan.specs.ScanView.{Places, StackFault, Movable, Moved, verdictOf, Off, Turns, Stays}
+use Rattle.replay_scan.specs.Scan.{write45, restOf, over45, Fine, of-other, of-stack, of-ram, ramIn}
+use Rattle.replay_scan.specs.ScanView.{Places, tallyOf, Few, StackFault, Movable, Moved, verdictOf, Off, Turns, Stays}
 use Rattle.replay.proofs.Verdicts.{judged-stops, judged-goes, judged-wrong, word-nil}
 
 -- ---- faults
@@ -54,42 +55,50 @@ differ-pred q d n h = go (eqb q (d - 1)) refl
         let l : q + 1 ≡ d → ⊥ = λ z. k (omega arith) in
         differ-is q (d - 1) n k ∙ sym (differ-is (q + 1) d n l)
 
-module _ (s : List ℕ) (depth : ℕ) (f : Fields) where
-  pub write-fault : (n : ℕ) → (f .dir ≡ 0 → ⊥) → n ≡ firstOf (differOf (f .place) depth 42) (aboveOf (depth - 15) (length s) 44) → StackFault s depth f n
+module _ (s : List ℕ) (depth : ℕ) (f : Fields) (over : ℕ) where
+  pub write-fault : (n : ℕ) → (f .dir ≡ 0 → ⊥) → n ≡ firstOf (differOf (f .place) depth 42) (firstOf over (aboveOf (depth - 15) (length s) 44)) → StackFault s depth f over n
   unfolding stackFault
-  write-fault n h e = record { is = λ t c. e ∙ go t c (f .dir) h }
+  write-fault n h e = record { is = λ l c q. e ∙ go l c (f .dir) h q }
     where
-      go : (t : ℕ) (c : Cells) (d : ℕ) → (d ≡ 0 → ⊥) → firstOf (differOf (f .place) depth 42) (aboveOf (depth - 15) (length s) 44) ≡ stackFault (built t depth s c) (f .place) d (f .value)
-      go t c zero h = absurd (h refl)
-      go t c (suc d) h = refl
+      go : (l : Tally) (c : Cells) (d : ℕ) → (d ≡ 0 → ⊥) → over ≡ stack45 l (f .clock) d →
+          firstOf (differOf (f .place) depth 42) (firstOf over (aboveOf (depth - 15) (length s) 44)) ≡ stackFault (built l depth s c) (f .clock) (f .place) d (f .value)
+      go l c zero h q = absurd (h refl)
+      go l c (suc d) h q = rw q
 
-  pub shallow-fault : f .dir ≡ 0 → depth < 17 → StackFault s depth f 42
+  pub shallow-fault : f .dir ≡ 0 → depth < 17 → StackFault s depth f over 42
   unfolding stackFault
-  shallow-fault h l = record { is = λ t c. rw h (sym (first-left _ _ (λ e. absurd (omega (arith, above-is 17 depth 42 l))) ∙ above-is 17 depth 42 l)) }
+  shallow-fault h l = record { is = λ t c q. rw h (sym (first-left _ _ (λ e. absurd (omega (arith, above-is 17 depth 42 l))) ∙ above-is 17 depth 42 l)) }
 
-  pub read-fault : (n : ℕ) → f .dir ≡ 0 → 17 ≤ depth → n ≡ firstOf (differOf (f .place) (depth - 1) 42) (differOf (f .value) (getD s (depth - 17) 0) 43) → StackFault s depth f n
+  pub read-fault : (n : ℕ) → f .dir ≡ 0 → 17 ≤ depth → n ≡ firstOf (differOf (f .place) (depth - 1) 42) (firstOf (differOf (f .value) (getD s (depth - 17) 0) 43) over) → StackFault s depth f over n
   unfolding stackFault
   read-fault n h l e =
       let k : 0 < depth = omega arith in
-      record { is = λ t c. rw h (e ∙ rw (differ-pred (f .place) depth 42 k) (sym (first-zero _ _ (above-not 17 depth 42 l)))) }
+      record { is = λ t c q. let z : over ≡ stack45 t (f .clock) 0 = rw h at q in rw h (e ∙ rw (differ-pred (f .place) depth 42 k, z) (sym (first-zero _ _ (above-not 17 depth 42 l)))) }
 
   -- without a fault there is a word to drop, or room for one
-  pub movable : Places s depth → StackFault s depth f 0 → Movable s depth f
+  pub movable : (l : Tally) → over ≡ stack45 l (f .clock) (f .dir) → Places s depth → StackFault s depth f over 0 → Movable s depth f
   unfolding stackFault
-  movable h e =
+  movable l q h e =
       let c = cells 0 [] [] in
       record {
         places = h;
-        read = λ z. above-nil 17 depth 42 (omega arith) (first-nil _ _ (sym (rw z at (e .is 0 c))) .0);
-        write = λ z. go c (f .dir) z (e .is 0 c);
+        read = λ z. above-nil 17 depth 42 (omega arith) (first-nil _ _ (sym (rw z at (e .is l c q))) .0);
+        write = λ z. go c (f .dir) z (e .is l c q);
       }
     where
-      go : (c : Cells) (d : ℕ) → 0 < d → 0 ≡ stackFault (built 0 depth s c) (f .place) d (f .value) → depth < length s + 16
+      go : (c : Cells) (d : ℕ) → 0 < d → 0 ≡ stackFault (built l depth s c) (f .clock) (f .place) d (f .value) → depth < length s + 16
       go c zero l k = absurd (omega arith)
       go c (suc d) l k =
-          let m : depth - 15 ≤ length s = above-nil (depth - 15) (length s) 44 (omega arith) (first-nil _ _ (sym k) .1) in
+          let m : depth - 15 ≤ length s = above-nil (depth - 15) (length s) 44 (omega arith) (first-nil _ _ (first-nil _ _ (sym k) .1) .1) in
           omega (arith, h .low)
 
+-- a record without a fault is not one too many
+fault-not-over : (b : Built) (t q d v : ℕ) → stackFault b t q d v ≡ 0 → stack45 (b .counts) t d ≡ 0
+unfolding stackFault
+fault-not-over b t q zero v e = first-nil _ _ (first-nil _ _ (first-nil _ _ e .1) .1) .1
+fault-not-over b t q (suc d) v e = first-nil _ _ (first-nil _ _ e .1) .0
+
+module _ (s : List ℕ) (depth : ℕ) (f : Fields) where
   pub moved-read : Movable s depth f → f .dir ≡ 0 → Moved s depth f (set s (depth - 17) 0) (depth - 1)
   unfolding stackTurn
   moved-read m h =
@@ -110,7 +119,7 @@ module _ (s : List ℕ) (depth : ℕ) (f : Fields) where
         room = length-set s (depth - 16) (f .value);
       }
     where
-      go : (t : ℕ) (c : Cells) (d : ℕ) → (d ≡ 0 → ⊥) → stackTurn (built t depth s c) (f .clock) d (f .value) ≡ built (f .clock) (depth + 1) (set s (depth - 16) (f .value)) c
+      go : (t : Tally) (c : Cells) (d : ℕ) → (d ≡ 0 → ⊥) → stackTurn (built t depth s c) (f .clock) d (f .value) ≡ built (withStack t (f .clock) d) (depth + 1) (set s (depth - 16) (f .value)) c
       go t c zero h = absurd (h refl)
       go t c (suc d) h = refl
 
@@ -125,24 +134,27 @@ module _ (j t n : ℕ) (x : Built) (s : List ℕ) (c : Cells) (r : Turn) where
   unfolding verdictOf
   wrong-is h k g m = judged-wrong j t n x h k ∙ rw (g, m, ne-eqb n 0 k)
 
-  goes-is : t < j → n ≡ 0 → r .going ≡ true → x ≡ built (r .last) (r .depth) s c → judged j t n x ≡ verdictOf r s c
+  goes-is : t < j → n ≡ 0 → r .going ≡ true → x ≡ built (tallyOf (r .counts)) (r .depth) s c → judged j t n x ≡ verdictOf r s c
   unfolding verdictOf
   goes-is h k g e = judged-goes j t n x h k ∙ rw (g, e)
 
 -- ---- a record of the op stack
 
-module _ (j last depth : ℕ) (s : List ℕ) (f : Fields) (h : Places s depth) where
+-- what is counted at the record's clock is m
+module _ (j : ℕ) (n : Counts) (depth : ℕ) (s : List ℕ) (f : Fields) (h : Places s depth) where
   abbrev of-f : Record
   of-f = stack (f .clock) (f .place) (f .dir) (f .value)
 
-  off-places : {n : ℕ} {r : Turn} → Off n depth r → Places s (r .depth)
+  off-places : {k : ℕ} {r : Turn} → Off k depth r → Places s (r .depth)
   off-places o = rw (o .depth) h
 
-  pub stack-late : {r : Turn} → j ≤ f .clock → Off 0 depth r → Turns j last depth s of-f s r
+  pub stack-late : {r : Turn} → j ≤ f .clock → Off 0 depth r → Turns j n depth s of-f s r
   unfolding restOf ramIn
   stack-late l o =
       record {
         is = λ c. late-is j _ _ _ s c _ l (o .going) (o .number);
+        over = λ e. absurd (let z : _≡_ {A = ℕ} 0 1 = cc (o .going) in omega arith);
+        few = λ e. absurd (let z : _≡_ {A = ℕ} 0 1 = cc (o .going) in omega arith);
         fine = λ e. of-stack;
         quiet = λ e q. refl;
         kept = λ e. refl;
@@ -150,17 +162,25 @@ module _ (j last depth : ℕ) (s : List ℕ) (f : Fields) (h : Places s depth) w
         room = refl;
       }
 
-  module _ (own here n : ℕ) (early : f .clock < j)
-      (own-is : own ≡ firstOf (fields40 (f .dir) (f .place) (f .value)) (aboveOf last (f .clock) 41))
-      (here-is : StackFault s depth f here) (n-is : n ≡ firstOf own here) where
-    fault-of : (c : Cells) → n ≡ firstOf (fields40 (f .dir) (f .place) (f .value)) (firstOf (aboveOf last (f .clock) 41) (stackFault (built last depth s c) (f .place) (f .dir) (f .value)))
-    fault-of c = n-is ∙ rw (own-is, here-is .is last c) (first-assoc _ _ _)
+  module _ (m : Counts) (m-is : (tallyOf m ≡ tallyAt (tallyOf n) (f .clock)) × Few m) (own over here k : ℕ) (early : f .clock < j)
+      (own-is : own ≡ firstOf (fields40 (f .dir) (f .place) (f .value)) (aboveOf (n .last) (f .clock) 41))
+      (over-is : over ≡ firstOf (cond (eqb (m .stacks) 0) 0 (differOf (f .dir) (m .way) 45)) (aboveOf (m .stacks + 1) mostRecords 45))
+      (here-is : StackFault s depth f over here) (k-is : k ≡ firstOf own here) where
+    is-45 : over ≡ stack45 (tallyOf n) (f .clock) (f .dir)
+    unfolding stack45
+    is-45 = over-is ∙ ap (λ (z : Tally). firstOf (cond (eqb (z .stacks) 0) 0 (differOf (f .dir) (z .way) 45)) (aboveOf (z .stacks + 1) mostRecords 45)) (m-is .0)
 
-    pub stack-wrong : {r : Turn} → (n ≡ 0 → ⊥) → Off n depth r → Turns j last depth s of-f s r
+    fault-of : (c : Cells) → k ≡ firstOf (fields40 (f .dir) (f .place) (f .value)) (firstOf (clock41 (tallyOf n) (f .clock)) (stackFault (built (tallyOf n) depth s c) (f .clock) (f .place) (f .dir) (f .value)))
+    unfolding clock41
+    fault-of c = k-is ∙ rw (own-is, here-is .is (tallyOf n) c is-45) (first-assoc _ _ _)
+
+    pub stack-wrong : {r : Turn} → (k ≡ 0 → ⊥) → Off k depth r → Turns j n depth s of-f s r
     unfolding restOf ramIn
-    stack-wrong k o =
+    stack-wrong z o =
         record {
-          is = λ c. wrong-is j _ _ _ s c _ early (λ e. k (fault-of c ∙ e)) (o .going) (o .number ∙ fault-of c);
+          is = λ c. wrong-is j _ _ _ s c _ early (λ e. z (fault-of c ∙ e)) (o .going) (o .number ∙ fault-of c);
+          over = λ e. absurd (let z : _≡_ {A = ℕ} 0 1 = cc (o .going) in omega arith);
+          few = λ e. absurd (let z : _≡_ {A = ℕ} 0 1 = cc (o .going) in omega arith);
           fine = λ e. of-stack;
           quiet = λ e q. refl;
           kept = λ e. refl;
@@ -168,19 +188,37 @@ module _ (j last depth : ℕ) (s : List ℕ) (f : Fields) (h : Places s depth) w
           room = refl;
         }
 
-    pub stack-movable : n ≡ 0 → Movable s depth f
-    stack-movable e = movable s depth f h (record { is = λ t c. sym (first-nil own here (sym n-is ∙ e) .1) ∙ here-is .is t c })
+    nothing-here : k ≡ 0 → StackFault s depth f over 0
+    nothing-here e = record { is = λ l c q. sym (first-nil own here (sym k-is ∙ e) .1) ∙ here-is .is l c q }
 
-    pub stack-goes : (after : List ℕ) (d : ℕ) → n ≡ 0 → Moved s depth f after d → Turns j last depth s of-f after (record { going = true; number = 0; last = f .clock; depth = d; ram = 0 })
-    unfolding restOf ramIn
-    stack-goes after d e m =
+    pub stack-movable : k ≡ 0 → Movable s depth f
+    stack-movable e = movable s depth f over (tallyOf n) is-45 h (nothing-here e)
+
+    -- one stack record more
+    abbrev behind : Counts
+    behind = record { last = f .clock; way = f .dir; stacks = m .stacks + 1; rams = m .rams }
+
+    behind-is : withStack (tallyOf n) (f .clock) (f .dir) ≡ tallyOf behind
+    unfolding withStack
+    behind-is = ap (λ (z : Tally). tally (f .clock) (f .dir) (z .stacks + 1) (z .rams)) (sym (m-is .0))
+
+    behind-few : k ≡ 0 → Few behind
+    behind-few e =
+        let z : over ≡ 0 = is-45 ∙ fault-not-over (built (tallyOf n) depth s (cells 0 [] [])) (f .clock) (f .place) (f .dir) (f .value) (sym (nothing-here e .is (tallyOf n) (cells 0 [] []) is-45)) in
+        record { stacks = above-nil (m .stacks + 1) mostRecords 45 (omega arith) (first-nil _ _ (sym over-is ∙ z) .1); rams = m-is .1 .rams }
+
+    pub stack-goes : (after : List ℕ) (d : ℕ) → k ≡ 0 → Moved s depth f after d → Turns j n depth s of-f after (record { going = true; number = 0; counts = behind; depth = d; ram = 0 })
+    unfolding restOf ramIn over45
+    stack-goes after d e o =
         record {
-          is = λ c. goes-is j _ _ _ after c _ early (sym (fault-of c) ∙ e) refl (m .is last c);
+          is = λ c. goes-is j _ _ _ after c _ early (sym (fault-of c) ∙ e) refl (o .is (tallyOf n) c ∙ ap (λ (z : Tally). built z d after c) behind-is);
+          over = λ _. refl;
+          few = λ _ _. behind-few e;
           fine = λ e. of-stack;
           quiet = λ e q. refl;
           kept = λ e. absurd (let z : _≡_ {A = ℕ} 0 1 = cc in omega arith);
-          places = m .places;
-          room = m .room;
+          places = o .places;
+          room = o .room;
         }
 
 -- ---- a record of RAM
@@ -192,38 +230,77 @@ fine-ram t a v d h k e =
     let y = first-nil _ _ (x .1) in
     of-ram (word-nil a h (y .0)) (word-nil v k (y .1)) (above-nil d 1 40 (omega arith) (x .0))
 
-module _ (j last depth : ℕ) (f : Fields) where
+write-45 : (l : Tally) (t d over : ℕ) → over ≡ ram45 l t → cond (eqb d 0) 0 over ≡ write45 l t d
+unfolding write45
+write-45 l t zero over e = refl
+write-45 l t (suc d) over e = let n : suc d ≡ 0 → ⊥ = λ z. omega arith in rw (ne-eqb (suc d) 0 n) e
+
+-- 45 of a record that goes on, which is that of a read
+over-45 : (l : Tally) (t a v d over : ℕ) → over ≡ ram45 l t → write45 l t d ≡ 0 → over45 l (ram t a v d) ≡ over
+unfolding write45 over45
+over-45 l t a v zero over e f = sym e
+over-45 l t a v (suc d) over e f = sym (e ∙ f)
+
+module _ (j : ℕ) (n : Counts) (depth : ℕ) (f : Fields) where
   abbrev of-ram-f : Record
   of-ram-f = ram (f .clock) (f .place) (f .value) (f .dir)
 
-  pub ram-late : {r : Turn} → j ≤ f .clock → Off 0 depth r → Stays j last depth of-ram-f r
+  pub ram-late : {r : Turn} → j ≤ f .clock → Off 0 depth r → Stays j n depth of-ram-f r
   unfolding restOf
   ram-late l o =
       record {
         is = λ s c. late-is j _ _ _ s c _ l (o .going) (o .number);
+        over = λ e. absurd (let z : _≡_ {A = ℕ} 0 1 = cc (o .going) in omega arith);
+        few = λ e. absurd (let z : _≡_ {A = ℕ} 0 1 = cc (o .going) in omega arith);
         fine = λ e. absurd (let z : _≡_ {A = ℕ} 0 1 = cc (o .going) in omega arith);
         quiet = λ e. absurd (let z : _≡_ {A = ℕ} 0 1 = cc (o .going) in omega arith);
         same = o .depth;
       }
 
-  module _ (own : ℕ) (early : f .clock < j) (own-is : own ≡ firstOf (fields40 (f .dir) (f .place) (f .value)) (aboveOf last (f .clock) 41)) where
-    pub ram-wrong : {r : Turn} → (own ≡ 0 → ⊥) → Off own depth r → Stays j last depth of-ram-f r
+  module _ (m : Counts) (m-is : (tallyOf m ≡ tallyAt (tallyOf n) (f .clock)) × Few m) (own over written k : ℕ) (early : f .clock < j)
+      (own-is : own ≡ firstOf (fields40 (f .dir) (f .place) (f .value)) (aboveOf (n .last) (f .clock) 41))
+      (over-is : over ≡ aboveOf (m .rams + 1) mostRecords 45) (written-is : written ≡ cond (eqb (f .dir) 0) 0 over) (k-is : k ≡ firstOf own written) where
+    is-ram-45 : over ≡ ram45 (tallyOf n) (f .clock)
+    unfolding ram45
+    is-ram-45 = over-is ∙ ap (λ (z : Tally). aboveOf (z .rams + 1) mostRecords 45) (m-is .0)
+
+    is-write-45 : written ≡ write45 (tallyOf n) (f .clock) (f .dir)
+    is-write-45 = written-is ∙ write-45 (tallyOf n) (f .clock) (f .dir) over is-ram-45
+
+    ram-fault-of : k ≡ firstOf (fields40 (f .dir) (f .place) (f .value)) (firstOf (clock41 (tallyOf n) (f .clock)) (write45 (tallyOf n) (f .clock) (f .dir)))
+    unfolding clock41
+    ram-fault-of = k-is ∙ rw (own-is, is-write-45) (first-assoc _ _ _)
+
+    pub ram-wrong : {r : Turn} → (k ≡ 0 → ⊥) → Off k depth r → Stays j n depth of-ram-f r
     unfolding restOf
-    ram-wrong k o =
+    ram-wrong z o =
         record {
-          is = λ s c. wrong-is j _ _ _ s c _ early (λ e. k (own-is ∙ e)) (o .going) (o .number ∙ own-is);
+          is = λ s c. wrong-is j _ _ _ s c _ early (λ e. z (ram-fault-of ∙ e)) (o .going) (o .number ∙ ram-fault-of);
+          over = λ e. absurd (let z : _≡_ {A = ℕ} 0 1 = cc (o .going) in omega arith);
+          few = λ e. absurd (let z : _≡_ {A = ℕ} 0 1 = cc (o .going) in omega arith);
           fine = λ e. absurd (let z : _≡_ {A = ℕ} 0 1 = cc (o .going) in omega arith);
           quiet = λ e. absurd (let z : _≡_ {A = ℕ} 0 1 = cc (o .going) in omega arith);
           same = o .depth;
         }
 
-    pub ram-goes : own ≡ 0 → f .place < 18446744073709551616 → f .value < 18446744073709551616 →
-        Stays j last depth of-ram-f (record { going = true; number = 0; last = f .clock; depth = depth; ram = 1 })
+    -- one RAM record more
+    abbrev ram-behind : Counts
+    ram-behind = record { last = f .clock; way = m .way; stacks = m .stacks; rams = m .rams + 1 }
+
+    ram-behind-is : withRam (tallyOf n) (f .clock) ≡ tallyOf ram-behind
+    unfolding withRam
+    ram-behind-is = ap (λ (z : Tally). tally (f .clock) (z .way) (z .stacks) (z .rams + 1)) (sym (m-is .0))
+
+    pub ram-goes : k ≡ 0 → f .place < 18446744073709551616 → f .value < 18446744073709551616 →
+        Stays j n depth of-ram-f (record { going = true; number = over; counts = ram-behind; depth = depth; ram = 1 })
     unfolding restOf
-    ram-goes e h k =
+    ram-goes e h g =
+        let x = first-nil _ _ (sym ram-fault-of ∙ e) in
         record {
-          is = λ s c. goes-is j _ _ _ s c _ early (sym own-is ∙ e) refl refl;
-          fine = λ _. fine-ram _ _ _ _ h k (first-nil _ _ (sym own-is ∙ e) .0);
+          is = λ s c. goes-is j _ _ _ s c _ early (sym ram-fault-of ∙ e) refl (ap (λ (z : Tally). built z depth s c) ram-behind-is);
+          over = λ _. over-45 (tallyOf n) (f .clock) (f .place) (f .value) (f .dir) over is-ram-45 (first-nil _ _ (x .1) .1);
+          few = λ _ z. record { stacks = m-is .1 .stacks; rams = above-nil (m .rams + 1) mostRecords 45 (omega arith) (sym over-is ∙ z) };
+          fine = λ _. fine-ram _ _ _ _ h g (x .0);
           quiet = λ _ q. absurd (omega arith);
           same = refl;
         }
@@ -238,22 +315,32 @@ pub ram-size : (kind : ℕ) → kind ≡ 5 → lengthOf kind ≡ 23
 unfolding lengthOf
 ram-size kind e = rw e
 
-module _ (log : List ℕ) (at kind j last depth : ℕ) (s : List ℕ) (h : Places s depth) where
+module _ (log : List ℕ) (at kind j : ℕ) (n : Counts) (depth : ℕ) (s : List ℕ) (h : Places s depth) where
   pub turn-stack : {after : List ℕ} {r : Turn} (f : Fields) → kind ≡ 4 → OfStack log at f →
-      Turns j last depth s (stack (f .clock) (f .place) (f .dir) (f .value)) after r → Turns j last depth s (recordAt log at kind) after r
+      Turns j n depth s (stack (f .clock) (f .place) (f .dir) (f .value)) after r → Turns j n depth s (recordAt log at kind) after r
   turn-stack f e o t = rw (stack-size kind e, e, o .is) t
 
-  pub turn-ram : {r : Turn} (f : Fields) → kind ≡ 5 → OfRam log at f → Stays j last depth (ram (f .clock) (f .place) (f .value) (f .dir)) r → Turns j last depth s (recordAt log at kind) s r
+  pub turn-ram : {r : Turn} (f : Fields) → kind ≡ 5 → OfRam log at f → Stays j n depth (ram (f .clock) (f .place) (f .value) (f .dir)) r → Turns j n depth s (recordAt log at kind) s r
   turn-ram f e o t =
       rw (ram-size kind e, e, o .is)
-      (record { is = λ c. t .is s c; fine = t .fine; quiet = t .quiet; kept = λ e. refl; places = rw (t .same) h; room = refl })
+      (record { is = λ c. t .is s c; over = t .over; few = t .few; fine = t .fine; quiet = t .quiet; kept = λ e. refl; places = rw (t .same) h; room = refl })
 
   other-is : (b : List ℕ) → (kind ≡ 4 → ⊥) → (kind ≡ 5 → ⊥) → recordOf kind b ≡ other kind (drop 4 b)
   unfolding recordOf
   other-is b k l = rw (ne-eqb kind 4 k, ne-eqb kind 5 l)
 
-  pub turn-other : (kind ≡ 4 → ⊥) → (kind ≡ 5 → ⊥) → Turns j last depth s (recordAt log at kind) s (record { going = true; number = 0; last = last; depth = depth; ram = 0 })
-  unfolding restOf verdictOf ramIn
-  turn-other k l =
+  pub turn-other : Few n → (kind ≡ 4 → ⊥) → (kind ≡ 5 → ⊥) → Turns j n depth s (recordAt log at kind) s (record { going = true; number = 0; counts = n; depth = depth; ram = 0 })
+  unfolding restOf verdictOf ramIn over45
+  turn-other few k l =
       rw (other-is _ k l)
-      (record { is = λ c. refl; fine = λ e. of-other; quiet = λ e q. refl; kept = λ e. refl; places = h; room = refl })
+      (record { is = λ c. refl; over = λ e. refl; few = λ _ _. few; fine = λ e. of-other; quiet = λ e q. refl; kept = λ e. refl; places = h; room = refl })
+
+-- ---- what is counted
+
+pub counts-same : (n : Counts) (t : ℕ) → Few n → n .last ≡ t → (tallyOf n ≡ tallyAt (tallyOf n) t) × Few n
+unfolding tallyAt
+counts-same n t f e = (rw (eq-eqb (n .last) t e), f)
+
+pub counts-anew : (n : Counts) (t : ℕ) → (n .last ≡ t → ⊥) → (tally t 0 0 0 ≡ tallyAt (tallyOf n) t) × Few (record { last = t; way = 0; stacks = 0; rams = 0 })
+unfolding tallyAt
+counts-anew n t e = (rw (ne-eqb (n .last) t e), record { stacks = omega arith; rams = omega arith })

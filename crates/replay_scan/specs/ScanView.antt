@@ -9,18 +9,27 @@ use Rattle.choices.specs.Choice.{cond}
 use Rattle.machine.specs.Ram.{Cells}
 use Rattle.machine.specs.Records.{Record}
 use Rattle.replay_scan.specs.declared.record.Fields.{Fields}
+use Rattle.replay_scan.specs.declared.scan.Counts.{Counts}
 use Rattle.replay_scan.specs.declared.scan.Turn.{Turn}
-use Rattle.replay.specs.Replay.{built, stackFault, stackTurn, Verdict, stops, wrong, goes}
-use Rattle.replay_scan.specs.Scan.{restOf, Fine, ramIn}
+use Rattle.replay.specs.Replay.{Tally, tally, withStack, built, mostRecords, stack45, stackFault, stackTurn, Verdict, stops, wrong, goes}
+use Rattle.replay_scan.specs.Scan.{restOf, over45, Fine, ramIn}
 
 -- the depth's places are in the stack slice
 pub record Places (s : List ℕ) (depth : ℕ) : Type 0 where
   pub low : 16 ≤ depth
   pub high : depth ≤ length s + 16
 
--- 42 to 44 of a record of the op stack, whatever the last clock and the cells are
-pub record StackFault (s : List ℕ) (depth : ℕ) (f : Fields) (n : ℕ) : Type 0 where
-  pub is : (t : ℕ) (c : Cells) → n ≡ stackFault (built t depth s c) (f .place) (f .dir) (f .value)
+abbrev pub tallyOf : Counts → Tally
+tallyOf n = tally (n .last) (n .way) (n .stacks) (n .rams)
+
+-- no more at a clock than are allowed
+pub record Few (n : Counts) : Type 0 where
+  pub stacks : n .stacks ≤ mostRecords
+  pub rams : n .rams ≤ mostRecords
+
+-- 42 to 45 of a record of the op stack, whose 45 is `over`, whatever the cells are
+pub record StackFault (s : List ℕ) (depth : ℕ) (f : Fields) (over n : ℕ) : Type 0 where
+  pub is : (l : Tally) (c : Cells) → over ≡ stack45 l (f .clock) (f .dir) → n ≡ stackFault (built l depth s c) (f .clock) (f .place) (f .dir) (f .value)
 
 -- a write has room, a read a word
 pub record Movable (s : List ℕ) (depth : ℕ) (f : Fields) : Type 0 where
@@ -30,13 +39,13 @@ pub record Movable (s : List ℕ) (depth : ℕ) (f : Fields) : Type 0 where
 
 -- what it makes of the stack
 pub record Moved (s : List ℕ) (depth : ℕ) (f : Fields) (after : List ℕ) (r : ℕ) : Type 0 where
-  pub is : (t : ℕ) (c : Cells) → stackTurn (built t depth s c) (f .clock) (f .dir) (f .value) ≡ built (f .clock) r after c
+  pub is : (l : Tally) (c : Cells) → stackTurn (built l depth s c) (f .clock) (f .dir) (f .value) ≡ built (withStack l (f .clock) (f .dir)) r after c
   pub places : Places after r
   pub room : length after ≡ length s
 
 -- what a turn stands for
 unfoldable pub verdictOf : Turn → List ℕ → Cells → Verdict
-verdictOf r s c = cond (r .going) (goes (built (r .last) (r .depth) s c)) (cond (eqb (r .number) 0) stops (wrong (r .number)))
+verdictOf r s c = cond (r .going) (goes (built (tallyOf (r .counts)) (r .depth) s c)) (cond (eqb (r .number) 0) stops (wrong (r .number)))
 
 -- the scan ends
 pub record Off (n d : ℕ) (r : Turn) : Type 0 where
@@ -45,8 +54,10 @@ pub record Off (n d : ℕ) (r : Turn) : Type 0 where
   pub depth : r .depth ≡ d
 
 -- what a record x does, whatever the cells are
-pub record Turns (j last depth : ℕ) (s : List ℕ) (x : Record) (after : List ℕ) (r : Turn) : Type 0 where
-  pub is : (c : Cells) → restOf j (built last depth s c) x ≡ verdictOf r after c
+pub record Turns (j : ℕ) (n : Counts) (depth : ℕ) (s : List ℕ) (x : Record) (after : List ℕ) (r : Turn) : Type 0 where
+  pub is : (c : Cells) → restOf j (built (tallyOf n) depth s c) x ≡ verdictOf r after c
+  pub over : r .going ≡ true → over45 (tallyOf n) x ≡ r .number
+  pub few : r .going ≡ true → r .number ≡ 0 → Few (r .counts)
   pub fine : r .going ≡ true → Fine x
   pub quiet : r .going ≡ true → r .ram ≡ 0 → ramIn (x ∷ []) ≡ 0
   pub kept : r .going ≡ false → after ≡ s
@@ -54,8 +65,10 @@ pub record Turns (j last depth : ℕ) (s : List ℕ) (x : Record) (after : List 
   pub room : length after ≡ length s
 
 -- the same of a record that leaves the stack as it is
-pub record Stays (j last depth : ℕ) (x : Record) (r : Turn) : Type 0 where
-  pub is : (s : List ℕ) (c : Cells) → restOf j (built last depth s c) x ≡ verdictOf r s c
+pub record Stays (j : ℕ) (n : Counts) (depth : ℕ) (x : Record) (r : Turn) : Type 0 where
+  pub is : (s : List ℕ) (c : Cells) → restOf j (built (tallyOf n) depth s c) x ≡ verdictOf r s c
+  pub over : r .going ≡ true → over45 (tallyOf n) x ≡ r .number
+  pub few : r .going ≡ true → r .number ≡ 0 → Few (r .counts)
   pub fine : r .going ≡ true → Fine x
   pub quiet : r .going ≡ true → r .ram ≡ 0 → ramIn (x ∷ []) ≡ 0
   pub same : r .depth ≡ depth

@@ -1,13 +1,14 @@
 -- `replay_scan::scan::record_turn` meets its contract. Assumes nothing.
-use borrow.Author.Needs.{needs}
-use native.Mathlib.Omega.{arith}
 use denote.Ref.{now}
 use Rattle.replay_scan.proofs.ScanLaws.{stack-size, ram-size, turn-stack, turn-ram, turn-other}
+use native.Mathlib.Omega.{arith}
+use borrow.Author.Needs.{needs}
 use Rattle.replay_scan.proofs.scan.record_turn.Statement.{statement}
 use Rattle.replay_scan.proofs.scan.record_turn.Tie as tie
 
 stack-fields-requires : tie.Need-stack-fields-requires
-stack-fields-requires c κs = omega (arith, stack-size _ (c .if1 .taken))
+stack-fields-requires c κs =
+    omega (arith, stack-size _ (c .if1 .taken))
 
 stack-turn-requires : tie.Need-stack-turn-requires
 stack-turn-requires c κs = search needs
@@ -16,21 +17,24 @@ same-length : tie.Need-same-length
 same-length c = search needs
 
 returns : tie.Need-returns
-returns c = turn-stack _ _ _ _ _ _ _ (c .before .before .before .before .before .before .before .before .pre .1) _ (c .before .before .before .before .before .if1 .taken) (c .before .before .before .before .stack-fields .ensures) (c .before .before .stack-turn .ensures)
+returns c =
+    turn-stack _ _ _ _ _ _ _ (c .before .before .before .before .before .before .before .before .pre .1) _ (c .before .before .before .before .before .if1 .taken) (c .before .before .before .before .stack-fields .ensures) (c .before .before .stack-turn .ensures)
 
 ram-fields-requires : tie.Need-ram-fields-requires
-ram-fields-requires c κs = omega (arith, ram-size _ (c .if2 .taken))
+ram-fields-requires c κs =
+    omega (arith, ram-size _ (c .if2 .taken))
 
 ram-turn-requires : tie.Need-ram-turn-requires
 ram-turn-requires c κs = search needs
 
 returns-2 : tie.Need-returns-2
-returns-2 c = turn-ram _ _ _ _ _ _ _ (c .before .before .before .before .before .before .pre .1) _ (c .before .before .if2 .taken) (c .before .ram-fields .ensures) (c .ram-turn .ensures)
+returns-2 c =
+    turn-ram _ _ _ _ _ _ _ (c .before .before .before .before .before .before .pre .1) _ (c .before .before .if2 .taken) (c .before .ram-fields .ensures) (c .ram-turn .ensures)
 
 returns-3 : tie.Need-returns-3
 returns-3 c =
     let a = c .before .before .before .before .args in
-    turn-other (now (a .log)) (a .at) (a .kind) (a .clock) (a .last) (a .depth) (now (a .words)) (c .before .before .before .before .pre .1) (c .before .if1 .left) (c .if2 .left)
+    turn-other (now (a .log)) (a .at) (a .kind) (a .clock) (a .counts) (a .depth) (now (a .words)) (c .before .before .before .before .pre .1) (c .before .before .before .before .pre .2) (c .before .if1 .left) (c .if2 .left)
 
 pub record-turn-spec : {M : Type 1} → statement M
 record-turn-spec =

@@ -1,6 +1,6 @@
 -- `replay_scan::scan::scan_log` meets its contract. Assumes nothing.
-use Rattle.replay_scan.specs.ScanView.{Places}
-use Rattle.replay_scan.proofs.Scans.{Going, going-start, scan-ends, scan-off, scan-goes}
+use Rattle.replay_scan.specs.ScanView.{Places, Few}
+use Rattle.replay_scan.proofs.Scans.{Going, going-start, scan-ends, scan-off, scan-goes, scan-over}
 use borrow.Author.Tests.{not-true, not-false}
 use Prim.Native.Nat.{_-_, _≤_}
 use native.Mathlib.Omega.{arith}
@@ -11,14 +11,14 @@ use Rattle.replay_scan.proofs.scan.scan_log.Statement.{statement}
 use Rattle.replay_scan.proofs.scan.scan_log.Tie as tie
 
 abbrev Inv-loop : tie.InvT-loop
-Inv-loop log words₀ clock at₀ last₀ depth₀ ram₀ words at last depth ram = (at ≤ length log) × Places words depth × (length words ≡ length words₀) × Going log words₀ clock at last depth ram words
+Inv-loop log words₀ clock at₀ counts₀ depth₀ ram₀ words at counts depth ram = (at ≤ length log) × Places words depth × (length words ≡ length words₀) × Few counts × Going log words₀ clock at counts depth ram words
 
 abbrev μ-loop : tie.MeasureT-loop
-μ-loop log words₀ clock at₀ last₀ depth₀ ram₀ words at last depth ram = length log - at
+μ-loop log words₀ clock at₀ counts₀ depth₀ ram₀ words at counts depth ram = length log - at
 
 loop-holds : tie.Need-loop-holds Inv-loop μ-loop
 loop-holds c =
-    (omega arith, record { low = omega arith; high = omega arith }, refl, going-start _ _ _)
+    (omega arith, record { low = omega arith; high = omega arith }, refl, record { stacks = omega arith; rams = omega arith }, going-start _ _ _)
 
 head-at-requires : tie.Need-head-at-requires Inv-loop μ-loop
 head-at-requires c κs =
@@ -34,7 +34,7 @@ same-length c =
 
 returns : tie.Need-returns Inv-loop μ-loop
 returns c =
-    scan-ends _ (c .before .before .before .before .loop .inv .3) (c .before .before .before .head-at .ensures) (c .before .before .before .before .loop .inv .0) (c .before .if1 .taken)
+    scan-ends _ (c .before .before .before .before .loop .inv .4) (c .before .before .before .head-at .ensures) (c .before .before .before .before .loop .inv .0) (c .before .if1 .taken)
 
 add-next : tie.Need-add-next Inv-loop μ-loop
 add-next c =
@@ -52,7 +52,7 @@ record-turn-requires : tie.Need-record-turn-requires Inv-loop μ-loop
 record-turn-requires c κs =
     let h = c .before .before .before .before .head-at in
     let t : h .result .state ≡ 2 = omega (arith, h .ensures .two) in
-    (omega (arith, h .ensures .fits t, h .ensures .sized t), c .before .before .before .before .before .loop .inv .1)
+    (omega (arith, h .ensures .fits t, h .ensures .sized t), c .before .before .before .before .before .loop .inv .1, c .before .before .before .before .before .loop .inv .3)
 
 same-length-2 : tie.Need-same-length-2 Inv-loop μ-loop
 same-length-2 c =
@@ -60,24 +60,35 @@ same-length-2 c =
 
 returns-2 : tie.Need-returns-2 Inv-loop μ-loop
 returns-2 c =
-    scan-off _ (c .before .before .before .before .before .before .before .before .before .before .loop .inv .3) (c .before .before .before .before .before .before .before .before .before .head-at .ensures) (c .before .before .before .before .before .before .before .before .before .before .loop .inv .0) (c .before .before .before .before .before .before .before .if1 .left) (c .before .before .before .before .record-turn .ensures) (not-true _ (c .if2 .taken))
+    scan-off _ (c .before .before .before .before .before .before .before .before .before .before .loop .inv .4) (c .before .before .before .before .before .before .before .before .before .head-at .ensures) (c .before .before .before .before .before .before .before .before .before .before .loop .inv .0) (c .before .before .before .before .before .before .before .if1 .left) (c .before .before .before .before .record-turn .ensures) (not-true _ (c .if2 .taken))
 
 first-requires : tie.Need-first-requires Inv-loop μ-loop
 first-requires c κs =
     search needs
 
+same-length-3 : tie.Need-same-length-3 Inv-loop μ-loop
+same-length-3 c =
+    omega (arith, c .before .before .before .before .before .before .before .before .before .before .before .before .before .before .loop .inv .2, c .before .before .before .before .before .before .before .before .record-turn .ensures .room)
+
+returns-3 : tie.Need-returns-3 Inv-loop μ-loop
+returns-3 c =
+    let h = c .before .before .before .before .before .before .before .before .before .before .before .before .before .head-at in
+    let t : h .result .state ≡ 2 = omega (arith, h .ensures .two) in
+    scan-over _ (c .before .before .before .before .before .before .before .before .before .before .before .before .before .before .loop .inv .4) (h .ensures) (c .before .before .before .before .before .before .before .before .before .before .before .before .before .before .loop .inv .0) (c .before .before .before .before .before .before .before .before .before .before .before .if1 .left) (c .before .before .before .before .before .before .before .before .record-turn .ensures) (not-false _ (c .before .before .before .before .if2 .left)) _ (c .before .before .first .ensures) (c .if3 .taken) (h .ensures .fits t)
+
 loop-less : tie.Need-loop-less Inv-loop μ-loop
 loop-less c =
-    let h = c .before .before .before .before .before .before .before .before .before .before .head-at in
+    let h = c .before .before .before .before .before .before .before .before .before .before .before .before .before .head-at in
     let t : h .result .state ≡ 2 = omega (arith, h .ensures .two) in
     omega (arith, h .ensures .fits t)
 
 loop-again : tie.Need-loop-again Inv-loop μ-loop
 loop-again c =
-    let h = c .before .before .before .before .before .before .before .before .before .before .head-at in
-    let r = c .before .before .before .before .before .record-turn in
-    let t : h .result .state ≡ 2 = omega (arith, h .ensures .two) in
-    (omega (arith, h .ensures .fits t), r .ensures .places, r .ensures .room ∙ c .before .before .before .before .before .before .before .before .before .before .before .loop .inv .2, scan-goes _ (c .before .before .before .before .before .before .before .before .before .before .before .loop .inv .3) (h .ensures) (c .before .before .before .before .before .before .before .before .before .before .before .loop .inv .0) (c .before .before .before .before .before .before .before .before .if1 .left) (r .ensures) (not-false _ (c .before .if2 .left)) _ (c .first .ensures))
+    let h = c .before .before .before .before .before .before .before .before .before .before .before .before .before .head-at in
+    let r = c .before .before .before .before .before .before .before .before .record-turn in
+    let t : h .result .state ≡ 2 = omega (arith, h .ensures .two, c .before .before .before .before .before .before .before .before .before .before .before .if1 .left) in
+    let g = not-false _ (c .before .before .before .before .if2 .left) in
+    (h .ensures .fits t, r .ensures .places, r .ensures .room ∙ c .before .before .before .before .before .before .before .before .before .before .before .before .before .before .loop .inv .2, r .ensures .few g (c .if3 .left), scan-goes _ (c .before .before .before .before .before .before .before .before .before .before .before .before .before .before .loop .inv .4) (h .ensures) (c .before .before .before .before .before .before .before .before .before .before .before .before .before .before .loop .inv .0) (c .before .before .before .before .before .before .before .before .before .before .before .if1 .left) (r .ensures) g _ (c .before .before .first .ensures) (c .if3 .left))
 
 pub scan-log-spec : {M : Type 1} → statement M
 scan-log-spec =
@@ -96,5 +107,7 @@ scan-log-spec =
     same-length-2
     returns-2
     first-requires
+    same-length-3
+    returns-3
     loop-less
     loop-again)
