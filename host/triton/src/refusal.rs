@@ -1,4 +1,4 @@
-//! Why a call is turned down: document 01's numbers under their names.
+//! Why a call is turned down: the numbers of documents 01 and 02 under their names.
 use std::error::Error;
 use std::fmt::{Display, Formatter, Result};
 
@@ -91,6 +91,9 @@ pub enum Refusal {
     ReadDiffers,
     /// 44, replay: no word or cell left for a write.
     SliceFull,
+    /// 45, replay: a record that no step can have written beside those of its clock before it: a stack record that goes the other
+    /// way, or the eleventh of the stack or of RAM.
+    NotOneStep,
 
     /// 50: no call's; a job file that is broken.
     JobFileBroken,
@@ -131,12 +134,13 @@ impl Refusal {
             42 => PointerDiffers,
             43 => ReadDiffers,
             44 => SliceFull,
+            45 => NotOneStep,
             50 => JobFileBroken,
             _ => return None,
         })
     }
 
-    /// Document 01's number.
+    /// The documents' number.
     pub fn number(self) -> u64 {
         self.number_and_name().0
     }
@@ -177,6 +181,7 @@ impl Refusal {
             PointerDiffers => (42, "PointerDiffers"),
             ReadDiffers => (43, "ReadDiffers"),
             SliceFull => (44, "SliceFull"),
+            NotOneStep => (45, "NotOneStep"),
             JobFileBroken => (50, "JobFileBroken"),
         }
     }
@@ -231,6 +236,7 @@ impl Display for Refusal {
             PointerDiffers => write!(f, "a stack record's pointer does not go with the depth"),
             ReadDiffers => write!(f, "a read must have the value held there, found another"),
             SliceFull => write!(f, "a write needs a word or a cell more than were lent"),
+            NotOneStep => write!(f, "the records of one clock must be at most ten of the stack, all one way, and ten of RAM"),
             JobFileBroken => write!(f, "the job file is broken"),
         }
     }
@@ -242,9 +248,9 @@ impl Error for Refusal {}
 mod tests {
     use super::Refusal;
 
-    /// Document 01's table.
-    const NUMBERS: [u64; 30] =
-        [1, 2, 3, 4, 5, 10, 11, 12, 13, 14, 15, 16, 17, 18, 19, 20, 21, 22, 23, 30, 31, 32, 33, 34, 40, 41, 42, 43, 44, 50];
+    /// Document 01's table, and 45 of document 02.
+    const NUMBERS: [u64; 31] =
+        [1, 2, 3, 4, 5, 10, 11, 12, 13, 14, 15, 16, 17, 18, 19, 20, 21, 22, 23, 30, 31, 32, 33, 34, 40, 41, 42, 43, 44, 45, 50];
 
     #[test]
     fn numbers_and_words_come_back() {

@@ -16,7 +16,8 @@ pub struct Replayed {
 
 /// Reads the log up to `clock` from the opening's RAM, which must ascend by address, with so many cells and stack words lent.
 ///
-/// A sound log of a job gives what the job's step before `clock` left; an altered read in it is refused (40 or 43).
+/// A sound log of a job gives what the job's step before `clock` left; an altered read in it is refused (40 or 43), and so is a log
+/// that has more for one clock than a step records, or stack records of both directions (45).
 pub fn replay(log: &[u8], clock: u64, ram: &[(u64, u64)], lent_cells: usize, lent_words: usize) -> Result<Replayed, Refusal> {
     let (mut addresses, mut values) = cells(ram, lent_cells);
     let mut words = zeros(lent_words);

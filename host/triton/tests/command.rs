@@ -177,6 +177,31 @@ fn record_show_and_replay() {
     assert!(text(&output.stderr).ends_with(&format!("; {fault}\n")), "{output:?}");
 }
 
+/// A log stitched from two jobs: up to clock 1 the first one's, from there on the second one's.
+#[test]
+fn a_spliced_log_is_refused() {
+    let recorded = |program: &str| {
+        let (job, log) = (Temporary::new("one.job"), Temporary::new("one.log"));
+        std::fs::write(&job.0, kixombu(&["make", "-"], format!("digest 1 2 3 4 5; {program}").as_bytes()).stdout).unwrap();
+        assert_eq!(kixombu(&["record", job.name(), log.name()], b"").status.code(), Some(0));
+        std::fs::read(&log.0).unwrap()
+    };
+    let (first, second) = (recorded("nop; push 1; halt"), recorded("push 1; pop 1; halt"));
+    let spliced = job("spliced.log");
+    assert_eq!([&first[..], &second[25..]].concat(), std::fs::read(&spliced).unwrap());
+    let output = kixombu(&["show", &spliced], b"");
+    assert_eq!(text(&output.stdout), "stack 1 16 write 5\nstack 1 16 read 5\n");
+
+    let replay = |clock: &str| kixombu(&["replay", &job("add.job"), &spliced, clock], b"");
+    let said = "NotOneStep (45): the records of one clock must be at most ten of the stack, all one way, and ten of RAM";
+    let output = replay("2");
+    ends(&output, 1, &format!("kixombu: {spliced} to clock 2: {said}\n"));
+    assert_eq!(output.stdout, b"");
+    let output = replay("1");
+    ends(&output, 0, "");
+    assert_eq!(text(&output.stdout), "depth 16\ncells 0\n");
+}
+
 /// A log of more bytes than a call takes is recorded, and not replayed.
 #[test]
 fn long_logs() {

@@ -279,6 +279,57 @@ fn replay_refuses_an_altered_read() {
     assert!(reads >= 10, "{reads}");
 }
 
+/// Eleven records of RAM or of the stack for a clock, and stack records of both directions: 45, behind 43 and before 44.
+#[test]
+fn replay_refuses_what_no_step_records() {
+    let stack = |clock, pointer, write| Record::Stack { clock, pointer, write, value: 1 };
+    let ram = |address, write, value| Record::Ram { clock: 3, address, value, write };
+    let replay = |records: &[Record], cells, words| {
+        kixombu::replay(&kixombu::bytes_of(records), 4, &[], cells, words).map(|replayed| replayed.depth)
+    };
+    let ten_reads = vec![ram(7, false, 0); 10];
+    let behind_ten = |last: Record, cells| replay(&[&ten_reads[..], &[last]].concat(), cells, 0);
+    assert_eq!(replay(&ten_reads, 0, 0), Ok(16));
+    assert_eq!(behind_ten(ram(7, false, 1), 0), Err(Refusal::ReadDiffers));
+    assert_eq!(behind_ten(ram(7, false, 0), 0), Err(Refusal::NotOneStep));
+    assert_eq!(behind_ten(ram(7, true, 1), 0), Err(Refusal::NotOneStep));
+    assert_eq!(behind_ten(ram(7, true, 1), 1), Err(Refusal::NotOneStep));
+    assert_eq!(replay(&[&ten_reads[1..], &[ram(7, true, 1)]].concat(), 0, 0), Err(Refusal::SliceFull));
+    let writes: Vec<Record> = (16..27).map(|pointer| stack(3, pointer, true)).collect();
+    assert_eq!(replay(&writes, 0, 10), Err(Refusal::NotOneStep));
+    assert_eq!(replay(&writes, 0, 11), Err(Refusal::NotOneStep));
+    assert_eq!(replay(&writes[..10], 0, 9), Err(Refusal::SliceFull));
+    assert_eq!(replay(&writes[..10], 0, 10), Ok(26));
+
+    // a write and then the matching read; at the next clock it is good
+    assert_eq!(replay(&[stack(0, 16, true), stack(0, 16, false)], 0, 1), Err(Refusal::NotOneStep));
+    assert_eq!(replay(&[stack(0, 16, true), stack(1, 16, false)], 0, 1), Ok(16));
+    assert_eq!(replay(&[stack(0, 16, true), stack(1, 16, false), stack(1, 16, true)], 0, 1), Err(Refusal::NotOneStep));
+    // what stands at the clock or behind is not counted
+    assert_eq!(replay(&[stack(4, 16, true), stack(4, 16, false)], 0, 1), Ok(16));
+}
+
+/// The steps with the most records: ten of the stack either way, ten of RAM.
+#[test]
+fn replay_takes_the_ten_records_of_a_step() {
+    let program = "sponge_init; sponge_squeeze; sponge_absorb; push 90; sponge_absorb_mem; halt";
+    let (log, jobs) = recorded(&format!("digest 1 2 3 4 5; ram 91 7; {program}"));
+    assert!(jobs.last().unwrap().is_halted());
+    let mut of_a_clock = BTreeMap::new();
+    for record in records(&log).map(Result::unwrap) {
+        match record {
+            Record::Stack { clock, write, .. } => *of_a_clock.entry((clock, "stack", write)).or_insert(0) += 1,
+            Record::Ram { clock, write, .. } => *of_a_clock.entry((clock, "ram", write)).or_insert(0) += 1,
+            _ => {}
+        }
+    }
+    let tens: Vec<_> = of_a_clock.iter().filter(|(_, count)| **count == 10).map(|(of, _)| *of).collect();
+    assert_eq!(tens, [(1, "stack", true), (2, "stack", false), (4, "ram", false)]);
+    for (clock, job) in jobs.iter().enumerate() {
+        assert_eq!(jobs[0].replay(&log, clock as u64).unwrap().depth, job.op_stack().len() as u64, "{clock}");
+    }
+}
+
 #[test]
 fn replay_refuses_by_number() {
     let write = |clock, pointer| Record::Stack { clock, pointer, write: true, value: 1 };
