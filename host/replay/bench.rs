@@ -2,11 +2,12 @@
 //! its cells at the end, in the same run; a ratio below 1 says that it is faster than that. The best turn of each counts. Measured
 //! are the library, an earlier one where BEFORE names its folder, and plain Rust that compares words with p byte by byte.
 use crate::lent::Lent;
+use crate::splice::breaking;
 use host::field::P;
 use host::model::replay::{replay as plain, replay_by_bytes, Replay};
 use host::random::Random;
 use kixombu::exports::{replay, replayed, LONGEST};
-use kixombu::{records as records_of, Record};
+use kixombu::Record;
 use std::io::Write;
 use std::time::{Duration, Instant};
 
@@ -157,24 +158,8 @@ fn case(name: String, all: impl Iterator<Item = Record>, ram: Vec<(u64, u64)>, c
         }
         records += 1;
     }
-    keeps_to_ten(&log);
+    assert!(breaking(&log).is_none(), "{name}: a clock has more than a step records");
     Case { name, log, records, ram, cells, words, goal: None }
-}
-
-/// Of a clock's records at most ten are of the stack, all in one direction, and at most ten of RAM: no step records more.
-fn keeps_to_ten(log: &[u8]) {
-    let (mut last, mut stack, mut ram) = (None, vec![], 0);
-    for record in records_of(log).map(Result::unwrap) {
-        let (Record::Stack { clock, .. } | Record::Ram { clock, .. }) = record else { continue };
-        if last != Some(clock) {
-            (last, stack, ram) = (Some(clock), vec![], 0);
-        }
-        match record {
-            Record::Stack { write, .. } => stack.push(write),
-            _ => ram += 1,
-        }
-        assert!(stack.len() <= 10 && stack.iter().all(|&write| write == stack[0]) && ram <= 10, "clock {clock}");
-    }
 }
 
 /// RAM records by number: address, and whether it is written; reads find 0.

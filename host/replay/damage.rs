@@ -1,5 +1,6 @@
 //! Sound logs, and logs and lent slices damaged in a place or a few.
 use crate::lent::Lent;
+use crate::splice::Clock;
 use host::cells::{cells, cells_at, disorder, near, spread};
 use host::field::{add, sub, P};
 use host::programs::{program, remembering};
@@ -10,11 +11,11 @@ use std::collections::{BTreeMap, BTreeSet};
 
 /// A sound log, and what it needs.
 pub struct Base {
-    log: Vec<u8>,
-    ram: Vec<(u64, u64)>,
+    pub log: Vec<u8>,
+    pub ram: Vec<(u64, u64)>,
     /// Words below the top sixteen and cells, at most.
-    words: usize,
-    cells: usize,
+    pub words: usize,
+    pub cells: usize,
     last_clock: u64,
 }
 
@@ -47,14 +48,19 @@ impl Base {
         let mut held: BTreeMap<u64, u64> = ram.iter().copied().collect();
         let mut known: Vec<u64> = held.keys().copied().collect();
         let mut next_address = walk(random, is_long);
-        let (mut stack, mut all, mut clock) = (vec![], vec![], 0);
+        // few records for a clock, or many
+        let pace = random.pick(&[1, 1, 4, 30]);
+        let (mut stack, mut all, mut at) = (vec![], vec![], Clock::default());
         for _ in 0..random.between(1, most_records) {
-            clock += random.below(3) as u32;
+            if random.once_in(pace) {
+                at.advance(random.below(3) as u32);
+            }
+            let clock = at.clock;
             let pointer = stack.len() as u64 + 16;
             let again = !known.is_empty() && random.once_in(4);
             let address = if again { random.pick(&known) } else { next_address(random) };
             let value = random.word();
-            all.push(match (random.below(4), stack.last().copied()) {
+            let record = match (random.below(4), stack.last().copied()) {
                 (0, Some(value)) => {
                     stack.pop();
                     Record::Stack { clock, pointer: pointer - 1, write: false, value }
@@ -70,12 +76,13 @@ impl Base {
                     }
                     Record::Ram { clock, address, value, write: true }
                 }
-            });
+            };
+            all.push(at.put(record));
         }
         Base::measured(bytes_of(&all), ram)
     }
 
-    fn measured(log: Vec<u8>, ram: Vec<(u64, u64)>) -> Base {
+    pub fn measured(log: Vec<u8>, ram: Vec<(u64, u64)>) -> Base {
         let mut held: BTreeSet<u64> = ram.iter().map(|cell| cell.0).collect();
         let (mut words, mut last_clock) = (0, 0);
         for record in records(&log) {
@@ -138,14 +145,18 @@ fn walk(random: &mut Random, is_long: bool) -> impl FnMut(&mut Random) -> u64 {
     }
 }
 
-/// A log and what is lent for it: sound, or one of them damaged, or both.
+/// A log and what is lent for it: sound, or one of them damaged, or both. Some logs are spliced.
 pub fn input(bases: &[Base], random: &mut Random) -> (Vec<u8>, Lent) {
     let base = &bases[random.index(bases.len())];
+    let is_spliced = random.once_in(6);
+    let spliced = is_spliced.then(|| base.spliced(&bases[random.index(bases.len())], random));
+    let base = spliced.as_ref().unwrap_or(base);
     let (mut log, mut lent) = (base.log.clone(), base.lent(random));
     if random.once_in(6) {
         (0..random.pick(&[1, 1, 2, 3])).for_each(|_| damage_lent(&mut lent, random));
     }
-    if !random.once_in(8) {
+    let is_damaged = if is_spliced { random.once_in(4) } else { !random.once_in(8) };
+    if is_damaged {
         for _ in 0..random.pick(&[1, 1, 1, 2, 3]) {
             damage_log(&mut log, bases, random);
         }

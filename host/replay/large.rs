@@ -23,7 +23,8 @@ const ADDRESSES: [u64; 3] = [20_000, 50_000, 100_000];
 /// Whether the opening has the i-th of these addresses, and the one behind it.
 const OPENINGS: [fn(u64) -> (bool, bool); 3] = [|_| (false, false), |i| (i % 20 == 0, i % 20 == 7), |i| (i % 2 == 0, true)];
 /// What all of them together must meet.
-const KINDS: [&str; 5] = ["replayed whole", "replayed to a clock", "refused with 40", "refused with 43", "refused with 44"];
+const KINDS: [&str; 6] =
+    ["replayed whole", "replayed to a clock", "refused with 40", "refused with 43", "refused with 44", "refused with 45"];
 
 pub fn check() -> Result<(), String> {
     let pieces = (ORDERS.len() * ADDRESSES.len()) as u64;
@@ -53,8 +54,9 @@ fn piece(piece: u64, watched: &Watched) -> Result<Counts<&'static str>, String> 
 
 /// Every record has as many bytes.
 const BYTES: usize = 25;
-/// Where a record of RAM has its value.
+/// Where a record of RAM has its value, and its direction.
 const VALUE: usize = 16;
+const DIRECTION: usize = 24;
 
 struct Large {
     log: Vec<u8>,
@@ -84,7 +86,7 @@ impl Large {
         let ram: Vec<(u64, u64)> = held.iter().map(|(&address, &value)| (address, value)).collect();
         let (mut records, mut reads) = (vec![], vec![]);
         for i in 0..addresses {
-            let clock = i as u32;
+            let clock = 2 * i as u32;
             let value = random.word();
             held.insert(order(i), value);
             records.push(Record::Ram { clock, address: order(i), value, write: true });
@@ -97,7 +99,7 @@ impl Large {
                 }
                 1 if i % 16 == 1 => {
                     records.push(Record::Stack { clock, pointer: 16, write: true, value });
-                    records.push(Record::Stack { clock, pointer: 16, write: false, value });
+                    records.push(Record::Stack { clock: clock + 1, pointer: 16, write: false, value });
                 }
                 _ => {
                     let address = match i % 4 {
@@ -111,7 +113,7 @@ impl Large {
                 }
             }
         }
-        Large { log: bytes_of(&records), ram, cells: held.len(), last_clock: addresses - 1, reads }
+        Large { log: bytes_of(&records), ram, cells: held.len(), last_clock: 2 * (addresses - 1), reads }
     }
 
     /// Of the reads in a part of the log, counted in tenths, those at the lowest, the middle and the highest address.
@@ -128,6 +130,19 @@ impl Large {
         let then = u64::from_le_bytes(self.log[at..at + 8].try_into().unwrap());
         self.log[at..at + 8].copy_from_slice(&value.to_le_bytes());
         then
+    }
+
+    /// Repeats a read, which is its clock's second record of RAM, until there are eleven; gives the eleventh.
+    fn crowd(&mut self, record: usize) -> usize {
+        let (from, to) = (BYTES * record, BYTES * (record + 1));
+        let more = self.log[from..to].repeat(9);
+        self.log.splice(to..to, more);
+        record + 9
+    }
+
+    /// The log without them.
+    fn thin(&mut self, record: usize) {
+        self.log.drain(BYTES * (record + 1)..BYTES * (record + 10));
     }
 
     /// Another word at a read; gives what was there.
@@ -174,12 +189,39 @@ impl Checked {
             self.large.set(second, of_second);
         }
 
+        self.crowded(&early, &late, watched)?;
+
         // the last record cut short, behind everything else
         self.large.log.pop();
         self.call(needed, u64::MAX, Some(40), watched)?;
         self.call(opening, u64::MAX, Some(44), watched)?;
         self.large.alter(early[0].0);
         self.call(needed, u64::MAX, Some(43), watched)
+    }
+
+    /// An eleventh record of RAM for a clock: a read, right or wrong, and a write; behind a cell too few, and behind the stop.
+    fn crowded(&mut self, early: &[(usize, u64)], late: &[(usize, u64)], watched: &Watched) -> Result<(), String> {
+        let (needed, opening) = (self.large.cells, self.large.ram.len());
+        for &(record, clock) in early.iter().chain(late) {
+            let eleventh = self.large.crowd(record);
+            self.call(needed, u64::MAX, Some(45), watched)?;
+            self.call(needed, clock, Some(0), watched)?;
+            let then = self.large.alter(eleventh);
+            self.call(needed, clock + 1, Some(43), watched)?;
+            self.large.set(eleventh, then);
+            self.large.log[BYTES * eleventh + DIRECTION] = 1;
+            self.call(needed, clock + 1, Some(45), watched)?;
+            self.call(opening, u64::MAX, None, watched)?;
+            self.large.thin(record);
+        }
+        // a cell too few and a wrong read, before it
+        self.large.crowd(late[0].0);
+        self.call(opening, u64::MAX, Some(44), watched)?;
+        let then = self.large.alter(early[0].0);
+        self.call(needed, u64::MAX, Some(43), watched)?;
+        self.large.set(early[0].0, then);
+        self.large.thin(late[0].0);
+        Ok(())
     }
 
     /// One call with so many cells, which must come to what the model does, and to this number.
@@ -212,6 +254,7 @@ impl Checked {
             40 => "refused with 40",
             43 => "refused with 43",
             44 => "refused with 44",
+            45 => "refused with 45",
             _ => "refused with another number",
         };
         *self.counts.entry(kind).or_default() += 1;

@@ -10,6 +10,7 @@ mod large;
 mod lengths;
 mod lent;
 mod logs;
+mod splice;
 
 use host::work::{fail, in_pieces, Counts, Watched};
 use std::process::exit;
@@ -72,7 +73,7 @@ fn run(mode: &str, words: &[&str], default: u64, size: u64, kinds: &[&'static st
 }
 
 fn print(counts: &Counts<&'static str>) {
-    counts.iter().for_each(|(name, count)| println!("{name:<34}{count:>14}"));
+    counts.iter().for_each(|(name, count)| println!("{name:<54}{count:>12}"));
 }
 
 fn usage() -> ! {

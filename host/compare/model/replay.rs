@@ -56,12 +56,48 @@ fn replay_by<const BYTES: bool>(
     number
 }
 
-/// What is rebuilt so far, and the last clock.
+/// What is rebuilt so far.
 struct Built {
-    last: u64,
     /// The words below the top sixteen.
     stack: Vec<u64>,
     ram: HashMap<u64, u64>,
+}
+
+/// How many stack and RAM records the last clock has.
+#[derive(Default)]
+struct AtClock {
+    stack_writes: u32,
+    stack_reads: u32,
+    ram: u32,
+}
+
+impl AtClock {
+    /// So many stack records, all in one direction, and so many of RAM may a clock have.
+    const MOST: u32 = 10;
+
+    fn stack_write(&mut self) -> Result<(), u64> {
+        if self.stack_reads > 0 || self.stack_writes == Self::MOST {
+            return Err(45);
+        }
+        self.stack_writes += 1;
+        Ok(())
+    }
+
+    fn stack_read(&mut self) -> Result<(), u64> {
+        if self.stack_writes > 0 || self.stack_reads == Self::MOST {
+            return Err(45);
+        }
+        self.stack_reads += 1;
+        Ok(())
+    }
+
+    fn ram_record(&mut self) -> Result<(), u64> {
+        if self.ram == Self::MOST {
+            return Err(45);
+        }
+        self.ram += 1;
+        Ok(())
+    }
 }
 
 impl Built {
@@ -79,12 +115,13 @@ impl Built {
             return Err(5);
         }
         let ram = addresses[..used].iter().copied().zip(values.iter().copied()).collect();
-        Ok(Built { last: 0, stack: vec![], ram })
+        Ok(Built { stack: vec![], ram })
     }
 
     /// Place E, record by record.
     fn read<const BYTES: bool>(mut self, log: &[u8], clock: u64, most_cells: usize, most_words: usize) -> Result<Built, u64> {
-        let mut left = log;
+        // the counts are no part of `self`, where they would be kept in memory: half as long again for a stack record
+        let (mut left, mut last, mut at_clock) = (log, 0, AtClock::default());
         while !left.is_empty() {
             let (kind, fields) = record(left).ok_or(40_u64)?;
             left = &left[4 + fields.len()..];
@@ -104,15 +141,17 @@ impl Built {
             let (0 | 1, Some(at), Some(value)) = (way, at, value) else {
                 return Err(40);
             };
-            if time < self.last {
+            if time < last {
                 return Err(41);
             }
-            self.last = time;
+            if time > last {
+                (last, at_clock) = (time, AtClock::default());
+            }
             match (kind, way) {
-                (4, 1) => self.stack_write(at, value, most_words)?,
-                (4, _) => self.stack_read(at, value)?,
-                (_, 1) => self.ram_write(at, value, most_cells)?,
-                _ => self.ram_read(at, value)?,
+                (4, 1) => self.stack_write(at, value, most_words, &mut at_clock)?,
+                (4, _) => self.stack_read(at, value, &mut at_clock)?,
+                (_, 1) => self.ram_write(at, value, most_cells, &mut at_clock)?,
+                _ => self.ram_read(at, value, &mut at_clock)?,
             }
         }
         Ok(self)
@@ -122,10 +161,11 @@ impl Built {
         self.stack.len() as u64 + 16
     }
 
-    fn stack_write(&mut self, pointer: u64, value: u64, most: usize) -> Result<(), u64> {
+    fn stack_write(&mut self, pointer: u64, value: u64, most: usize, at_clock: &mut AtClock) -> Result<(), u64> {
         if pointer != self.depth() {
             return Err(42);
         }
+        at_clock.stack_write()?;
         if self.stack.len() == most {
             return Err(44);
         }
@@ -133,17 +173,18 @@ impl Built {
         Ok(())
     }
 
-    fn stack_read(&mut self, pointer: u64, value: u64) -> Result<(), u64> {
+    fn stack_read(&mut self, pointer: u64, value: u64, at_clock: &mut AtClock) -> Result<(), u64> {
         if self.stack.is_empty() || pointer != self.depth() - 1 {
             return Err(42);
         }
         match self.stack.pop() {
-            Some(held) if held == value => Ok(()),
+            Some(held) if held == value => at_clock.stack_read(),
             _ => Err(43),
         }
     }
 
-    fn ram_write(&mut self, address: u64, value: u64, most: usize) -> Result<(), u64> {
+    fn ram_write(&mut self, address: u64, value: u64, most: usize, at_clock: &mut AtClock) -> Result<(), u64> {
+        at_clock.ram_record()?;
         let is_full = self.ram.len() == most;
         match self.ram.get_mut(&address) {
             Some(held) => *held = value,
@@ -155,9 +196,9 @@ impl Built {
         Ok(())
     }
 
-    fn ram_read(&mut self, address: u64, value: u64) -> Result<(), u64> {
+    fn ram_read(&mut self, address: u64, value: u64, at_clock: &mut AtClock) -> Result<(), u64> {
         match self.ram.get(&address).copied().unwrap_or(0) == value {
-            true => Ok(()),
+            true => at_clock.ram_record(),
             false => Err(43),
         }
     }

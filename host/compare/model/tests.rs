@@ -183,3 +183,125 @@ fn words_are_compared_whole_or_by_bytes() {
     }
     assert!(met[0] > 1_000 && met[1] > 1_000, "{met:?}");
 }
+
+const WRITE: bool = true;
+const READ: bool = false;
+
+fn stack_record(clock: u32, pointer: u64, write: bool, value: u64) -> Record {
+    Record::Stack { clock, pointer, write, value }
+}
+
+fn ram_record(clock: u32, address: u64, write: bool, value: u64) -> Record {
+    Record::Ram { clock, address, value, write }
+}
+
+/// So many stack writes at a clock, upward from a pointer, each of its pointer.
+fn up(clock: u32, pointer: u64, count: u64) -> Vec<Record> {
+    (pointer..pointer + count).map(|pointer| stack_record(clock, pointer, WRITE, pointer)).collect()
+}
+
+/// So many stack reads at a clock of what `up` wrote, downward to a pointer.
+fn down(clock: u32, pointer: u64, count: u64) -> Vec<Record> {
+    (pointer..pointer + count).rev().map(|pointer| stack_record(clock, pointer, READ, pointer)).collect()
+}
+
+/// So many reads, at a clock, of an address that is not held.
+fn absent(clock: u32, count: usize) -> Vec<Record> {
+    vec![ram_record(clock, 999, READ, 0); count]
+}
+
+/// So many RAM writes at a clock, from an address on.
+fn new(clock: u32, address: u64, count: u64) -> Vec<Record> {
+    (address..address + count).map(|address| ram_record(clock, address, WRITE, 7)).collect()
+}
+
+/// The number with so many cells and words lent, read up to a clock.
+fn replayed(parts: &[Vec<Record>], clock: u64, cells: usize, words: usize) -> u64 {
+    let log = bytes_of(&parts.concat());
+    let lent = (vec![UNUSED; cells], vec![UNUSED; cells], vec![0; words]);
+    let mut left = lent.clone();
+    let number = replay(&mut [9; 3], &log, clock, 0, &mut left.0, &mut left.1, &mut left.2);
+    assert!(number == 0 || left == lent, "refused with {number}, and something is changed");
+    number
+}
+
+/// The request's log: a stack write and then the matching read within one clock. And the other way round.
+#[test]
+fn a_clock_has_one_direction() {
+    let number = |parts: &[Vec<Record>]| replayed(parts, 100, 1, 100);
+    assert_eq!(number(&[up(7, 16, 1), down(7, 16, 1)]), 45);
+    assert_eq!(number(&[up(7, 16, 1), down(8, 16, 1)]), 0);
+    assert_eq!(number(&[up(0, 16, 3), down(0, 18, 1)]), 45);
+    assert_eq!(number(&[up(0, 16, 3), down(1, 17, 2), up(1, 17, 1)]), 45);
+    assert_eq!(number(&[up(0, 16, 3), down(1, 17, 2), up(2, 17, 1)]), 0);
+    // what stands between does not part them
+    for between in [vec![], vec![Record::Reset], vec![Record::U32 { opcode: 4, left: 1, right: 2 }], absent(7, 1)] {
+        assert_eq!(number(&[up(7, 16, 1), between, down(7, 16, 1)]), 45);
+    }
+    // RAM's have no direction
+    assert_eq!(number(&[new(3, 5, 1), absent(3, 1), new(3, 5, 1), up(3, 16, 2)]), 0);
+}
+
+#[test]
+fn a_clock_has_ten_of_each() {
+    let number = |parts: &[Vec<Record>]| replayed(parts, 100, 100, 100);
+    for (count, expected) in [(9, 0), (10, 0), (11, 45), (12, 45)] {
+        assert_eq!(number(&[up(0, 16, count)]), expected, "{count}");
+        assert_eq!(number(&[up(3, 16, 10), up(4, 26, 10), down(5, 36 - count, count)]), expected, "{count}");
+        assert_eq!(number(&[new(0, 0, count)]), expected, "{count}");
+        assert_eq!(number(&[absent(3, count as usize)]), expected, "{count}");
+        assert_eq!(number(&[absent(3, 4), new(3, 0, count - 4)]), expected, "{count}");
+        assert_eq!(number(&[new(3, 0, count - 4), absent(3, 4)]), expected, "{count}");
+    }
+    // the stack's and RAM's are counted apart
+    assert_eq!(number(&[new(5, 0, 5), up(5, 16, 10), absent(5, 5)]), 0);
+    assert_eq!(number(&[up(5, 16, 10), new(5, 0, 10), up(5, 26, 1)]), 45);
+    assert_eq!(number(&[up(5, 16, 10), new(5, 0, 10), absent(5, 1)]), 45);
+}
+
+/// By the clock's value, at the first record of the stack or of RAM that has a higher one.
+#[test]
+fn each_clock_is_counted_anew() {
+    let number = |parts: &[Vec<Record>]| replayed(parts, 100, 100, 100);
+    assert_eq!(number(&[up(0, 16, 10), up(1, 26, 10), down(2, 26, 10), down(90, 16, 10)]), 0);
+    assert_eq!(number(&[new(0, 0, 10), absent(1, 10), new(3, 0, 10)]), 0);
+    assert_eq!(number(&[new(5, 0, 10), up(6, 16, 1), absent(6, 10)]), 0);
+    assert_eq!(number(&[new(5, 0, 10), up(5, 16, 1), absent(5, 1)]), 45);
+    assert_eq!(number(&[up(5, 16, 1), absent(6, 1), down(6, 16, 1)]), 0);
+    assert_eq!(number(&[up(5, 16, 10), vec![Record::Reset], up(5, 26, 1)]), 45);
+    // the stop comes first
+    assert_eq!(replayed(&[up(6, 16, 10), up(7, 26, 11)], 7, 0, 99), 0);
+    assert_eq!(replayed(&[up(6, 16, 10), up(7, 26, 11)], 8, 0, 99), 45);
+    assert_eq!(replayed(&[up(7, 16, 1), absent(7, 10), absent(8, 11)], 8, 0, 1), 0);
+}
+
+/// 45 stands behind 43 and before 44.
+#[test]
+fn the_order_of_the_numbers() {
+    let wrong = |clock| vec![ram_record(clock, 999, READ, 1)];
+    let number = |parts: &[Vec<Record>]| replayed(parts, 100, 3, 10);
+    // an eleventh RAM read
+    assert_eq!(number(&[absent(0, 10), absent(0, 1)]), 45);
+    assert_eq!(number(&[absent(0, 10), wrong(0)]), 43);
+    // an eleventh RAM write to a new address with no cell left, and a tenth
+    assert_eq!(number(&[new(0, 0, 3), absent(0, 7), new(0, 3, 1)]), 45);
+    assert_eq!(number(&[new(0, 0, 3), absent(0, 6), new(0, 3, 1)]), 44);
+    // an eleventh stack write with the slice full, and a tenth
+    assert_eq!(replayed(&[up(0, 16, 11)], 100, 0, 10), 45);
+    assert_eq!(replayed(&[up(0, 16, 10)], 100, 0, 9), 44);
+    // stack records of the other direction, and an eleventh read
+    assert_eq!(number(&[up(0, 16, 2), vec![stack_record(0, 17, READ, 1)]]), 43);
+    assert_eq!(number(&[up(0, 16, 2), vec![stack_record(0, 18, READ, 17)]]), 42);
+    assert_eq!(number(&[up(0, 16, 2), down(1, 17, 1), vec![stack_record(1, 18, WRITE, 1)]]), 42);
+    let twenty = [up(0, 16, 10), up(1, 26, 10), down(2, 26, 10)];
+    let eleventh = |record| replayed(&[&twenty[..], &[vec![record]]].concat(), 100, 0, 20);
+    assert_eq!(eleventh(stack_record(2, 25, READ, 25)), 45);
+    assert_eq!(eleventh(stack_record(2, 25, READ, 26)), 43);
+    assert_eq!(eleventh(stack_record(2, 24, READ, 24)), 42);
+    assert_eq!(eleventh(stack_record(2, 25, READ, P)), 40);
+    assert_eq!(eleventh(stack_record(1, 25, READ, 25)), 41);
+    // the first wrong record is refused, whatever its number
+    assert_eq!(number(&[absent(0, 11), wrong(0)]), 45);
+    assert_eq!(number(&[wrong(0), absent(0, 10)]), 43);
+    assert_eq!(number(&[new(0, 0, 4), absent(0, 7)]), 44);
+}
