@@ -15,7 +15,7 @@ use Rattle.machine_isa.specs.InstructionView.{grownIn, shrunkIn}
 use Rattle.machine.specs.Machine.{Machine}
 use Rattle.machine.specs.Effect.{Decision, refuses}
 use Rattle.machine.specs.Decide.{opcodeOf, argumentOf, effectOf, decideIn, decideOf}
-use Rattle.machine.proofs.StepBytes.{allOf, all-decode}
+use Rattle.machine.proofs.Weighed.{allOf, all-decode}
 use Rattle.machine_decide.specs.DecideView.{actIn}
 use Rattle.machine_decide.specs.PlaceBView.{shallow, placeB}
 

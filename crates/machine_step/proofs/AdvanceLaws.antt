@@ -224,7 +224,7 @@ plain-way {t} {m} h d e k =
     record {
       change = keeps;
       decides = h .decides ∙ sym e ∙ decision-of d;
-      few = λ a. plain-few m (h .standing .sound) (d .effect) (a ∙ ap acts (plain-same (d .effect))) (h .way);
+      few = λ a. plain-few m (h .standing .sound) (d .effect) (a ∙ ap acts (plain-same (d .effect)));
       sizes = plain-sizes (d .effect);
       limits = ap (limitsOf m) (plain-same (d .effect));
       performs = rw k (plain-performs m (d .effect));
@@ -251,7 +251,7 @@ hash-way {t} {m} z h e k l =
     record {
       change = cond (h .sponges) (becomes (h .sponge)) keeps;
       decides = z .decides ∙ sym e ∙ hashed-of h;
-      few = λ a. hashed-few m h (sym (z .decides) ∙ a ∙ ap acts (hash-same h)) (z .way);
+      few = λ a. hashed-few m (z .standing .sound) h (a ∙ ap acts (hash-same h));
       sizes = omega (arith, hashed-bytes h (callsOf (h .decided .effect)), plain-sizes (h .decided .effect));
       limits = ap (limitsOf m) (hash-same h) ∙ hashed-limits m h (effectOf (h .decided .effect));
       performs = ap (performed m) (hash-same h) ∙ rw (k, l) (hash-performs m h);
