@@ -1,9 +1,10 @@
 //! The library's calls beside the original Rust (`oracle bench`) on the same jobs, in one run: nanoseconds a step and ratios
-//! (below 1: the library is faster). The best turn of each counts. Opening and copying the state are not in the time.
+//! (below 1: the library is faster); and beside those of an earlier library, where BEFORE names its folder. The best turn of each
+//! counts. Opening and copying the state are not in the time.
 use host::field::P;
 use host::instructions::named;
 use host::job::{Before, Job, Room, Start};
-use host::lent::{answer, ending, Machine, LIBRARY, STEP_BYTES};
+use host::lent::{answer, ending, Calls, Machine, LIBRARY, STEP_BYTES};
 use host::oracle::Oracle;
 use host::random::Random;
 use kixombu::exports::{step_registers, Registers};
@@ -28,15 +29,22 @@ struct Case {
 
 fn main() {
     let oracle = Oracle::new("bench");
-    println!("{:<38}{:<18}{:>12}{:>10}{:>10}", "job", "call", "library ns", "Rust ns", "ratio");
+    print!("{:<38}{:<18}{:>12}{:>10}{:>10}", "job", "call", "library ns", "Rust ns", "ratio");
+    println!("{}", if before().is_some() { format!("{:>12}{:>10}", "before ns", "ratio") } else { String::new() });
     for case in cases() {
         report(&case, &oracle);
     }
 }
 
+/// An earlier library, which opens nothing here.
+fn before() -> Option<Calls> {
+    let before::Calls { step, run, trace_execution, helper_variables, .. } = before::CALLS?;
+    Some(Calls { step, run, trace_execution, helper_variables, ..LIBRARY })
+}
+
 /// The calls in turns with the oracle's, so that a slow moment meets both.
 fn report(case: &Case, oracle: &Oracle) {
-    let start = case.job.started(case.room, &Before::default(), &mut Random::new(1));
+    let start = case.job.started(case.room, &Before::default(), 1, &mut Random::new(1));
     let mut machine = start.clone();
     let ran = machine.run(&LIBRARY, u64::MAX);
     assert_eq!(ran[answer::ENDING], ending::DONE, "{}: {ran:?}", case.name);
@@ -44,10 +52,15 @@ fn report(case: &Case, oracle: &Oracle) {
     let has_many = case.room.cells >= MANY_CELLS;
     let mut states = first_states(&start, if has_many { LARGE_STATES } else { STATES_FOR_HELPERS });
     let mut best = [f64::MAX; 5];
+    let mut earlier = [f64::MAX; 5];
     let mut theirs = [f64::MAX; 3];
     for _ in 0..if has_many { LONG_TURNS } else { TURNS } {
-        let turns = [by_run(&start), by_trace(&start, steps), by_step(&start), by_record(&start), by_helpers(&mut states)];
-        best.iter_mut().zip(turns).for_each(|(best, turn)| *best = best.min(turn));
+        for (best, by) in [(&mut best, Some(LIBRARY)), (&mut earlier, before())] {
+            let Some(by) = by else { continue };
+            let turns = [by_run(&start, &by), by_trace(&start, &by, steps), by_step(&start, &by), by_helpers(&mut states, &by)];
+            best.iter_mut().zip(turns).for_each(|(best, turn)| *best = best.min(turn));
+        }
+        best[4] = best[4].min(by_record(&start));
         for (name, time) in oracle.bench(&case.job, steps) {
             let place = ["run", "step", "helpers"].iter().position(|known| *known == name).unwrap();
             theirs[place] = theirs[place].min(time);
@@ -55,14 +68,17 @@ fn report(case: &Case, oracle: &Oracle) {
     }
     // running with records is the Rust's loop over step
     let rows = [
-        ("run", best[0], theirs[0]),
-        ("trace_execution", best[1], theirs[1]),
-        ("step", best[2], theirs[1]),
-        ("step_registers", best[3], theirs[1]),
-        ("helper_variables", best[4], theirs[2]),
+        ("run", 0, theirs[0]),
+        ("trace_execution", 1, theirs[1]),
+        ("step", 2, theirs[1]),
+        ("step_registers", 4, theirs[1]),
+        ("helper_variables", 3, theirs[2]),
     ];
-    for (call, ours, theirs) in rows {
-        println!("{:<38}{call:<18}{ours:>12.1}{theirs:>10.1}{:>10.2}", case.name, ours / theirs);
+    for (call, place, theirs) in rows {
+        let (ours, earlier) = (best[place], earlier[place]);
+        print!("{:<38}{call:<18}{ours:>12.1}{theirs:>10.1}{:>10.2}", case.name, ours / theirs);
+        // not measured: no earlier library, or over its register record, which is another
+        println!("{}", if earlier < f64::MAX { format!("{earlier:>12.1}{:>10.2}", ours / earlier) } else { String::new() });
     }
 }
 
@@ -77,31 +93,31 @@ fn per_step(mut once: impl FnMut() -> (Duration, u64)) -> f64 {
     time.as_nanos() as f64 / steps as f64
 }
 
-fn by_run(start: &Machine) -> f64 {
+fn by_run(start: &Machine, by: &Calls) -> f64 {
     per_step(|| {
         let mut machine = start.clone();
         let began = Instant::now();
-        let ran = machine.run(&LIBRARY, u64::MAX);
+        let ran = machine.run(by, u64::MAX);
         (began.elapsed(), ran[answer::STEPS])
     })
 }
 
-fn by_trace(start: &Machine, steps: u64) -> f64 {
+fn by_trace(start: &Machine, by: &Calls, steps: u64) -> f64 {
     let mut log = vec![0; ((steps as usize + 1) * STEP_BYTES).min(1 << 24)];
     per_step(|| {
         let mut machine = start.clone();
         let began = Instant::now();
-        let ran = machine.trace_execution(&LIBRARY, u64::MAX, &mut log);
+        let ran = machine.trace_execution(by, u64::MAX, &mut log);
         (began.elapsed(), ran[answer::STEPS])
     })
 }
 
-fn by_step(start: &Machine) -> f64 {
+fn by_step(start: &Machine, by: &Calls) -> f64 {
     let mut buffer = [0; STEP_BYTES];
     per_step(|| {
         let mut machine = start.clone();
         in_a_turn(|| {
-            let answer = machine.step(&LIBRARY, &mut buffer);
+            let answer = machine.step(by, &mut buffer);
             black_box(&buffer);
             answer[answer::NUMBER]
         })
@@ -137,11 +153,11 @@ fn in_a_turn(mut step: impl FnMut() -> u64) -> (Duration, u64) {
     (began.elapsed(), taken)
 }
 
-fn by_helpers(states: &mut [Machine]) -> f64 {
+fn by_helpers(states: &mut [Machine], by: &Calls) -> f64 {
     per_step(|| {
         let began = Instant::now();
         states.iter_mut().for_each(|state| {
-            black_box(state.helper_variables(&LIBRARY));
+            black_box(state.helper_variables(by));
         });
         (began.elapsed(), states.len() as u64)
     })

@@ -1,8 +1,8 @@
 //! One job three ways: what the oracle reports, the model and the library.
 use crate::cells::ascend;
 use crate::job::{Before, Job, Room};
-use crate::lent::{answer, ending, Answer, Calls, Machine, LIBRARY, STEP_BYTES};
-use crate::model::MODEL;
+use crate::lent::{answer, ending, step_bytes, Answer, Calls, Machine, LIBRARY};
+use crate::model::{put_clock, MODEL};
 use crate::oracle::{End, Refused, Report, State};
 use crate::random::Random;
 use kixombu::{bytes_of, Record};
@@ -120,19 +120,34 @@ pub fn limited(mut report: Report, room: Room) -> Report {
     report
 }
 
-/// Everything that is compared of a job in a room. The report has the limits in it.
+/// The clock that the original's calls lack put into its report, for a log of revision 2: that before the step.
+fn clocked(mut report: Report) -> Report {
+    let mut now = report.opened.as_ref().map_or(0, |opened| opened.clock);
+    for step in &mut report.tried {
+        step.result.iter_mut().flatten().for_each(|record| put_clock(record, now as u32));
+        now = step.state.clock;
+    }
+    report
+}
+
+/// Everything that is compared of a job in a room, in each revision of the log. The report has the limits in it.
 pub fn check(job: &Job, report: &Report, room: Room, random: &mut Random) -> Checked<()> {
+    check_in(1, job, report, room, random)?;
+    check_in(2, job, &clocked(report.clone()), room, random)
+}
+
+fn check_in(revision: u64, job: &Job, report: &Report, room: Room, random: &mut Random) -> Checked<()> {
     let before = if job.start.is_some() { Before::random(random) } else { Before::default() };
-    let check = Check { job, report, before };
+    let check = Check { job, report, before, revision };
     let Some(opened) = &report.opened else {
         return check.refused_opening(room, random);
     };
     same("VMState::run", ("expected", &true), ("oracle", &report.run_is_same.unwrap_or(true)))?;
     let start = match &job.start {
-        Some(_) => Both::new(job.started(room, &check.before, random)),
+        Some(_) => Both::new(job.started(room, &check.before, revision, random)),
         None => {
             let mut both = Both::new(job.unopened(room, random));
-            let answer = both.call("open", |machine, by| machine.open(by, &job.digest, job.ram.len() as u64))?;
+            let answer = both.call("open", |machine, by| machine.open(by, revision, &job.digest, job.ram.len() as u64))?;
             same("open", ("expected", &[0; answer::ALL]), ("library", &answer))?;
             both
         }
@@ -147,6 +162,7 @@ struct Check<'a> {
     job: &'a Job,
     report: &'a Report,
     before: Before,
+    revision: u64,
 }
 
 impl Check<'_> {
@@ -160,7 +176,7 @@ impl Check<'_> {
     }
 
     fn steps(&self, mut both: Both, random: &mut Random) -> Checked<()> {
-        let spare = random.index(3);
+        let (spare, most) = (random.index(3), step_bytes(self.revision));
         for (i, step) in self.report.tried.iter().enumerate() {
             let what = format!("step {i}");
             let helpers = both.call(&format!("{what}, helper variables"), |machine, by| machine.helper_variables(by))?;
@@ -168,7 +184,7 @@ impl Check<'_> {
 
             let filling = random.next() as u8;
             let (answer, buffer) = both.call(&what, |machine, by| {
-                let mut buffer = vec![filling; STEP_BYTES + spare];
+                let mut buffer = vec![filling; most + spare];
                 (machine.step(by, &mut buffer), buffer)
             })?;
             let mut bytes = match &step.result {
@@ -183,7 +199,7 @@ impl Check<'_> {
         // behind a refusal: a skiz that dropped its word may go on; here only the model answers
         for _ in 0..3 {
             both.call("a step behind the end", |machine, by| {
-                let mut buffer = [0; STEP_BYTES];
+                let mut buffer = vec![0; most];
                 (machine.step(by, &mut buffer), buffer)
             })?;
         }
@@ -203,7 +219,7 @@ impl Check<'_> {
             if taken as u64 == budget {
                 break ended(ending::SPENT, &bytes);
             }
-            if log.is_some_and(|log| log - bytes.len() < STEP_BYTES) {
+            if log.is_some_and(|log| log - bytes.len() < step_bytes(self.revision)) {
                 break ended(ending::FULL, &bytes);
             }
             let step = &self.report.tried[taken];
@@ -247,7 +263,8 @@ impl Check<'_> {
     fn traces(&self, start: &Both, random: &mut Random) -> Checked<()> {
         let budget = if self.report.end == End::Spent { self.report.steps } else { random.pick(&[u64::MAX, self.report.steps]) };
         let all = self.run_to(budget, Some(usize::MAX)).2.len();
-        for room in [all + STEP_BYTES, STEP_BYTES - 1, random.index(all + 2 * STEP_BYTES)] {
+        let most = step_bytes(self.revision);
+        for room in [all + most, most - 1, random.index(all + 2 * most)] {
             let what = format!("trace_execution, budget {budget}, log of {room}");
             let filling = random.next() as u8;
             let mut both = start.clone();
@@ -272,15 +289,17 @@ impl Check<'_> {
         let expected = [ending::REFUSED, number, 0, 0, 0, 0, 0];
         if self.job.start.is_none() {
             let mut both = Both::new(self.job.unopened(room, random));
-            let answer = both.call("open", |machine, by| machine.open(by, &self.job.digest, self.job.ram.len() as u64))?;
+            let answer =
+                both.call("open", |machine, by| machine.open(by, self.revision, &self.job.digest, self.job.ram.len() as u64))?;
             return same("open", ("oracle", &expected), ("library", &answer));
         }
-        let mut both = Both::new(self.job.started(room, &self.before, random));
-        let answer = both.call("step", |machine, by| machine.step(by, &mut [0; STEP_BYTES]))?;
+        let mut both = Both::new(self.job.started(room, &self.before, self.revision, random));
+        let answer = both.call("step", |machine, by| machine.step(by, &mut vec![0; step_bytes(self.revision)]))?;
         same("step", ("oracle", &expected), ("library", &answer))?;
         let answer = both.call("run", |machine, by| machine.run(by, 1))?;
         same("run", ("oracle", &expected), ("library", &answer))?;
-        let answer = both.call("trace_execution", |machine, by| machine.trace_execution(by, 1, &mut [0; STEP_BYTES]))?;
+        let answer =
+            both.call("trace_execution", |machine, by| machine.trace_execution(by, 1, &mut vec![0; step_bytes(self.revision)]))?;
         same("trace_execution", ("oracle", &expected), ("library", &answer))?;
         let helpers = both.call("helper variables", |machine, by| machine.helper_variables(by))?;
         same("helper variables", ("oracle", &(number, [0; 6])), ("library", &helpers))

@@ -1,7 +1,7 @@
 //! Machines damaged in one place or two, for every reason that place A has to refuse a step, and such as it must not refuse.
 use crate::field::P;
 use crate::instructions::{decode, Instruction, ALL};
-use crate::lent::{register, Machine, STEP_BYTES};
+use crate::lent::{register, step_bytes, Machine};
 
 /// A machine, and how long a call buffer is lent.
 #[derive(Clone)]
@@ -40,6 +40,7 @@ fn with(damages: &[&Damage]) -> Damaged {
 fn sound() -> Damaged {
     let mut registers = vec![5, 0, 18, 2, 3, 2, 1, 1, 1, 0, 1];
     registers.extend(100..116);
+    registers.push(1);
     let used = |words: &[u64], length: usize| [words, &vec![0; length - words.len()]].concat();
     let machine = Machine {
         registers,
@@ -55,7 +56,7 @@ fn sound() -> Damaged {
         values: used(&[72, 73, 74], 5),
         output: used(&[81, 82], 4),
     };
-    Damaged { machine, room: STEP_BYTES }
+    Damaged { machine, room: step_bytes(1) }
 }
 
 fn damage(change: impl Fn(&mut Damaged) + 'static) -> Damage {
@@ -85,7 +86,7 @@ fn long(slice: usize) -> Damage {
 /// Number 1: a buffer that is too short, an op stack below sixteen words, slices that do not go together, digests not in
 /// fives.
 fn lengths() -> Vec<Damage> {
-    let mut damages: Vec<Damage> = [0, 1, STEP_BYTES - 1].map(|room| damage(move |damaged| damaged.room = room)).into();
+    let mut damages: Vec<Damage> = [0, 1, step_bytes(1) - 1].map(|room| damage(move |damaged| damaged.room = room)).into();
     damages.extend([0, 15].map(|length| of_machine(move |machine| machine.op_stack.truncate(length))));
     damages.extend([1, 2, 7, 8, 9, 10].into_iter().flat_map(|slice| [short(slice), long(slice)]));
     damages.extend([1, 4, 6, 9].map(|length| of_machine(move |machine| machine.digests.truncate(length))));
@@ -97,7 +98,7 @@ fn lengths() -> Vec<Damage> {
 fn words() -> Vec<Damage> {
     let places = [(2, 0), (2, 3), (3, 0), (3, 2), (4, 0), (4, 1), (5, 0), (5, 9), (6, 0), (6, 17)];
     let pairs = [(7, 0), (7, 1), (8, 0), (8, 1), (9, 0), (9, 2), (10, 0), (10, 2)];
-    let registers = [(0, register::POINTER), (0, register::SPONGE), (0, register::ALL - 1)];
+    let registers = [(0, register::POINTER), (0, register::SPONGE), (0, register::REVISION - 1)];
     let all = places.into_iter().chain(pairs).chain(registers);
     let mut damages: Vec<Damage> =
         all.enumerate().map(|(i, (slice, place))| put(slice, place, if i % 3 == 0 { u64::MAX } else { P })).collect();

@@ -36,7 +36,7 @@ pub fn fits(machine: &Machine) -> bool {
         && machine.output.len() <= most::OUTPUT
 }
 
-/// The registers that are no lengths, then the sponge's words.
+/// The registers that are no lengths, then the sponge's words. The log is of revision 1.
 const REGISTERS: [usize; 7] = [
     register::CLOCK,
     register::POINTER,
@@ -177,7 +177,7 @@ fn put_pairs(bytes: &mut Vec<u8>, left: &[u64], right: &[u64]) {
 
 fn put_registers(bytes: &mut Vec<u8>, machine: &Machine) {
     put_words(bytes, &REGISTERS.map(|place| machine.registers[place]));
-    put_words(bytes, &machine.registers[register::SPONGE..]);
+    put_words(bytes, &machine.registers[register::SPONGE..register::REVISION]);
 }
 
 fn counts_of(machine: &Machine) -> [usize; 4] {
@@ -240,6 +240,7 @@ impl<'a> Reader<'a> {
         }
         COUNTS.iter().zip(counts).for_each(|(&place, count)| registers[place] = count as u64);
         registers.extend(self.words(16)?);
+        registers.push(1);
         Some(registers)
     }
 

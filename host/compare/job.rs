@@ -91,6 +91,7 @@ impl Job {
             secret_input: self.secret.clone(),
             secret_digests: self.digests.clone(),
             ram: self.ram.clone(),
+            ..Opening::default()
         }
     }
 
@@ -114,8 +115,8 @@ impl Job {
         }
     }
 
-    /// The machine at the job's start, which must not be an opening.
-    pub fn started(&self, room: Room, before: &Before, random: &mut Random) -> Machine {
+    /// The machine at the job's start, which must not be an opening, with a log of this revision.
+    pub fn started(&self, room: Room, before: &Before, revision: u64, random: &mut Random) -> Machine {
         let start = self.start.as_ref().expect("the job has a start");
         let mut any = |n: usize| -> Vec<u64> { (0..n).map(|_| random.next()).collect() };
         let (addresses, values) = self.cells(room.cells, any(2 * room.cells));
@@ -133,6 +134,7 @@ impl Job {
             start.sponge.is_some().into(),
         ];
         registers.extend(start.sponge.unwrap_or(before.sponge));
+        registers.push(revision);
         let mut output = any(room.output + before.output.len());
         output[..before.output.len()].copy_from_slice(&before.output);
         Machine {

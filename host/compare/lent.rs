@@ -1,13 +1,13 @@
 //! What a call is handed, in the shape of the library's C interface.
 use kixombu::exports;
-pub use kixombu::exports::{answer, ending, register, Code, Memory, MemoryView, LONGEST, STEP_BYTES};
+pub use kixombu::exports::{answer, ending, register, step_bytes, Code, Memory, MemoryView, LONGEST, STEP_BYTES};
 
 pub type Answer = [u64; answer::ALL];
 
 /// The calls of one side: the library's or the model's (`model::MODEL`). Each gives the number, 0 where not refused.
 #[derive(Clone, Copy)]
 pub struct Calls {
-    pub open: fn(Words, Words, &[u64], u64, Code, Memory) -> u64,
+    pub open: fn(Words, Words, u64, &[u64], u64, Code, Memory) -> u64,
     pub step: fn(Words, Words, Code, Memory, &mut [u8]) -> u64,
     pub run: fn(Words, Words, u64, Code, Memory) -> u64,
     pub trace_execution: fn(Words, Words, u64, Code, Memory, &mut [u8]) -> u64,
@@ -113,10 +113,10 @@ impl Machine {
         ]
     }
 
-    pub fn open(&mut self, by: &Calls, digest: &[u64], cells: u64) -> Answer {
+    pub fn open(&mut self, by: &Calls, revision: u64, digest: &[u64], cells: u64) -> Answer {
         let mut answer = [u64::MAX; answer::ALL];
         let (registers, code, memory) = self.parts();
-        let number = (by.open)(registers, &mut answer, digest, cells, code, memory);
+        let number = (by.open)(registers, &mut answer, revision, digest, cells, code, memory);
         numbered(answer, number)
     }
 

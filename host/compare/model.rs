@@ -8,7 +8,7 @@ pub mod replay;
 mod tests;
 
 use crate::instructions::decode;
-use crate::lent::{answer, ending, register, Calls, Code, Memory, MemoryView, STEP_BYTES};
+use crate::lent::{answer, ending, register, step_bytes, Calls, Code, Memory, MemoryView};
 use crate::tip5::State;
 use kixombu::{bytes_of, Record};
 use place_a::{place_a, Handed};
@@ -40,6 +40,8 @@ pub struct Vm {
     secrets: usize,
     digests: usize,
     sponge: Option<State>,
+    /// Of the log: 1 or 2.
+    revision: u64,
 }
 
 /// How many words or entries the lent slices hold.
@@ -76,7 +78,9 @@ impl Vm {
             publics: count(register::PUBLICS),
             secrets: count(register::SECRETS),
             digests: count(register::DIGESTS),
-            sponge: (registers[register::SPONGE_SET] == 1).then(|| registers[register::SPONGE..].try_into().unwrap()),
+            sponge: (registers[register::SPONGE_SET] == 1)
+                .then(|| registers[register::SPONGE..register::REVISION].try_into().unwrap()),
+            revision: registers[register::REVISION],
         }
     }
 
@@ -94,7 +98,7 @@ impl Vm {
         registers[register::HALTED] = self.halted.into();
         if let Some(words) = self.sponge {
             registers[register::SPONGE_SET] = 1;
-            registers[register::SPONGE..].copy_from_slice(&words);
+            registers[register::SPONGE..register::REVISION].copy_from_slice(&words);
         }
         memory.op_stack.fill(0);
         memory.op_stack[..self.stack.len()].copy_from_slice(&self.stack);
@@ -139,6 +143,9 @@ impl Vm {
             }
         };
         assert_eq!(after.stack.len() as i64, depth_after);
+        if self.revision == 2 {
+            records.iter_mut().for_each(|record| put_clock(record, self.clock));
+        }
 
         // place D
         for (number, over) in [
@@ -174,6 +181,13 @@ impl Vm {
     }
 }
 
+/// Document 02: a clock with every Tip5 and U32 record, that before the step.
+pub fn put_clock(record: &mut Record, now: u32) {
+    if let Record::Tip5 { clock, .. } | Record::U32 { clock, .. } = record {
+        *clock = Some(now);
+    }
+}
+
 fn pairs<'a>(left: &'a [u64], right: &'a [u64], n: usize) -> impl Iterator<Item = (u64, u64)> + 'a {
     left[..n].iter().copied().zip(right[..n].iter().copied())
 }
@@ -187,8 +201,9 @@ pub const MODEL: Calls = Calls {
     helper_variables,
 };
 
-fn open(registers: &mut [u64], answer: &mut [u64], digest: &[u64], cells: u64, code: Code, memory: Memory) -> u64 {
-    let number = place_a(&Handed::Open { registers, answer, digest, cells }, code, memory.view());
+#[rustfmt::skip]
+fn open(registers: &mut [u64], answer: &mut [u64], revision: u64, digest: &[u64], cells: u64, code: Code, memory: Memory) -> u64 {
+    let number = place_a(&Handed::Open { registers, answer, revision, digest, cells }, code, memory.view());
     if number == 0 {
         memory.op_stack.fill(0);
         memory.origins.fill(0);
@@ -199,6 +214,7 @@ fn open(registers: &mut [u64], answer: &mut [u64], digest: &[u64], cells: u64, c
         registers.fill(0);
         registers[register::DEPTH] = 16;
         registers[register::CELLS] = cells;
+        registers[register::REVISION] = revision;
     }
     answered(answer, ending::DONE, refused(number), 0, 0)
 }
@@ -256,7 +272,7 @@ fn run(
         if steps == budget {
             break (ending::SPENT, Ok(()));
         }
-        if log.as_ref().is_some_and(|log| log.len() - bytes < STEP_BYTES) {
+        if log.as_ref().is_some_and(|log| log.len() - bytes < step_bytes(vm.revision)) {
             break (ending::FULL, Ok(()));
         }
         match vm.step(code, &room) {

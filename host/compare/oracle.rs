@@ -197,8 +197,10 @@ impl<'a> Words<'a> {
     fn record(&mut self) -> Record {
         match self.word() {
             "reset" => Record::Reset,
-            "tip5" => Record::Tip5 { opcode: self.number(), states: Box::new(core::array::from_fn(|_| self.numbers())) },
-            "u32" => Record::U32 { opcode: self.number(), left: self.number(), right: self.number() },
+            "tip5" => {
+                Record::Tip5 { clock: None, opcode: self.number(), states: Box::new(core::array::from_fn(|_| self.numbers())) }
+            }
+            "u32" => Record::U32 { clock: None, opcode: self.number(), left: self.number(), right: self.number() },
             "stack" => {
                 let (clock, pointer) = (self.number(), self.number());
                 let write = self.word() == "w";
@@ -268,7 +270,7 @@ impl State {
             ram: pairs(&machine.addresses, &machine.values, count(register::CELLS)),
             output: machine.output[put_before..count(register::OUTPUTS)].to_vec(),
             taken: core::array::from_fn(|i| r[taken[i]] - taken_before[i]),
-            sponge: if r[register::SPONGE_SET] == 1 { r[register::SPONGE..].to_vec() } else { vec![] },
+            sponge: if r[register::SPONGE_SET] == 1 { r[register::SPONGE..register::REVISION].to_vec() } else { vec![] },
         }
     }
 }

@@ -128,7 +128,7 @@ fn entry(job: &Job, report: &Report, room: Room, random: &mut Random) -> Entry {
     if !random.once_in(4) {
         before = Before { sponge: before.sponge.map(|_| 0), ..Before::default() };
     }
-    let mut start = job.started(room, &before, random);
+    let mut start = job.started(room, &before, 1, random);
     let [cells, outputs] = [register::CELLS, register::OUTPUTS].map(|place| start.registers[place] as usize);
     start.addresses[cells..].fill(0);
     start.values[cells..].fill(0);

@@ -32,7 +32,7 @@ impl Arena {
         let memory = Memory { op_stack, origins, destinations, addresses, values, output };
         let (answer, digest, bytes) = (self.answer.slice(), self.digest.slice(), self.bytes.slice());
         match export {
-            Export::Open => (by.open)(registers, answer, digest, input.cells, code, memory),
+            Export::Open => (by.open)(registers, answer, input.revision, digest, input.cells, code, memory),
             Export::Step => (by.step)(registers, answer, code, memory, bytes),
             Export::Run => (by.run)(registers, answer, input.budget, code, memory),
             Export::Trace => (by.trace_execution)(registers, answer, input.budget, code, memory, bytes),

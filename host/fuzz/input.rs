@@ -4,7 +4,7 @@ use host::check::least;
 use host::field::P;
 use host::instructions::{named, ALL};
 use host::job::{Before, Job, Room};
-use host::lent::{answer, register, Machine, STEP_BYTES};
+use host::lent::{answer, register, step_bytes, Machine, STEP_BYTES};
 use host::programs::{program, remembering, wild};
 use host::random::Random;
 use host::states::{single, OF_RAM};
@@ -45,6 +45,8 @@ pub struct Input {
     pub machine: Machine,
     /// The answer, or the helper variables.
     pub answer: Vec<u64>,
+    /// Of the log, for open.
+    pub revision: u64,
     pub digest: Vec<u64>,
     pub bytes: Vec<u8>,
     pub cells: u64,
@@ -91,6 +93,7 @@ fn arbitrary(export: Export, random: &mut Random) -> Input {
     Input {
         machine,
         answer: (0..lengths[0]).map(|_| random.next()).collect(),
+        revision: any_revision(random),
         digest: (0..lengths[1]).map(|_| number(random, small)).collect(),
         bytes: vec![random.next() as u8; lengths[2]],
         cells: random.below(40),
@@ -134,11 +137,12 @@ fn sound(export: Export, random: &mut Random) -> Input {
         None => opened(&job, room, random),
         Some(_) => {
             let before = Before::random(random);
-            job.started(room, &before, random)
+            let revision = random.between(1, 2);
+            job.started(room, &before, revision, random)
         }
     };
     let bytes = match export {
-        Export::Step => STEP_BYTES + random.index(2),
+        Export::Step => step_bytes(machine.registers[register::REVISION]) + random.index(2),
         Export::Trace => {
             let most = random.pick(&[2_000, 4_000, 20_000]);
             random.index(most)
@@ -148,6 +152,7 @@ fn sound(export: Export, random: &mut Random) -> Input {
     Input {
         machine,
         answer: (0..export.answer_length()).map(|_| random.next()).collect(),
+        revision: random.between(1, 2),
         digest: random.words(5),
         bytes: vec![random.next() as u8; bytes],
         cells: random.below(job.ram.len() as u64 + 1),
@@ -169,15 +174,27 @@ fn room(job: &Job, steps: usize, random: &mut Random) -> Room {
 
 fn opened(job: &Job, room: Room, random: &mut Random) -> Machine {
     let mut machine = job.unopened(room, random);
-    let answer = machine.open(&host::model::MODEL, &job.digest, job.ram.len() as u64);
+    let revision = random.between(1, 2);
+    let answer = machine.open(&host::model::MODEL, revision, &job.digest, job.ram.len() as u64);
     assert_eq!(answer[answer::NUMBER], 0);
     machine
+}
+
+/// 0 to 3, or any number.
+fn any_revision(random: &mut Random) -> u64 {
+    match random.below(6) {
+        0 => random.next(),
+        1 => random.pick(&[u64::MAX, 1 << 32, P]),
+        _ => random.below(4),
+    }
 }
 
 /// One place changed.
 fn damage(input: &mut Input, random: &mut Random) {
     let registers = &mut input.machine.registers;
-    match random.below(20) {
+    match random.below(22) {
+        20 => input.revision = any_revision(random),
+        21 => registers.get_mut(register::REVISION).into_iter().for_each(|word| *word = any_revision(random)),
         0 => resize(&mut input.answer, random),
         1 => resize(&mut input.digest, random),
         2 => input.bytes.truncate(random.index(input.bytes.len() + 1)),

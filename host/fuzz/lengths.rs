@@ -79,6 +79,7 @@ fn write(before: &mut Machine, address: u64) -> (u64, Machine) {
 fn small() -> Machine {
     let mut machine = Machine { registers: vec![0; register::ALL], op_stack: vec![0; 16], ..Machine::default() };
     machine.registers[register::DEPTH] = 16;
+    machine.registers[register::REVISION] = 1;
     machine.opcodes = vec![0];
     machine.arguments = vec![0];
     machine
@@ -90,7 +91,7 @@ fn calls(machine: &mut Machine, buffer: usize, expected: u64) {
         let (number, _) = machine.helper_variables(by);
         assert_eq!(number, expected);
         assert_eq!(machine.run(by, 0)[answer::NUMBER], expected);
-        assert_eq!(machine.open(by, &[0; 5], 0)[answer::NUMBER], expected);
+        assert_eq!(machine.open(by, 1, &[0; 5], 0)[answer::NUMBER], expected);
     }
     buffers(machine, buffer, expected);
 }

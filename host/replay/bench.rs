@@ -34,7 +34,7 @@ struct Case {
 
 /// What is measured, the library first. The last is what the others are compared with.
 fn forms() -> Vec<(&'static str, Replay)> {
-    let before = before::REPLAY.map(|replay| ("before", replay));
+    let before = before::CALLS.map(|calls| ("before", calls.replay));
     let plain: [(&str, Replay); 2] = [("by bytes", replay_by_bytes), ("Rust", plain)];
     [("library", replay as Replay)].into_iter().chain(before).chain(plain).collect()
 }
@@ -86,6 +86,7 @@ fn best(case: &Case, forms: &[(&str, Replay)]) -> Vec<Duration> {
 fn time(case: &Case, by: Replay) -> (Duration, Lent) {
     let mut lent = Lent {
         answer: vec![0; replayed::ALL],
+        revision: 1,
         clock: u64::MAX,
         cells: case.ram.len() as u64,
         addresses: vec![0; case.cells],
@@ -205,7 +206,7 @@ fn hashing() -> Case {
             Record::Stack { clock: 16 * round + i, pointer, write, value: pointer }
         };
         let pushed = (0..10).map(move |i| record(i, 16 + i, true));
-        let hashed = [Record::Tip5 { opcode: 18, states: states.clone() }].into_iter();
+        let hashed = [Record::Tip5 { clock: None, opcode: 18, states: states.clone() }].into_iter();
         let taken = (0..10).map(move |i| record(10 + i / 2, 25 - i, false));
         pushed.chain(hashed).chain(taken)
     });

@@ -1,17 +1,19 @@
 //! Sound logs, and logs and lent slices damaged in a place or a few.
 use crate::lent::Lent;
+use crate::revisions::{measured, mix, of_revision};
 use crate::splice::Clock;
 use host::cells::{cells, cells_at, disorder, near, spread};
 use host::field::{add, sub, P};
 use host::programs::{program, remembering};
 use host::random::Random;
 use kixombu::exports::replayed;
-use kixombu::{bytes_of, records, Job, Record, Sizes};
+use kixombu::{bytes_of, records_of, Job, Opening, Record, Revision, Sizes};
 use std::collections::{BTreeMap, BTreeSet};
 
 /// A sound log, and what it needs.
 pub struct Base {
     pub log: Vec<u8>,
+    pub revision: Revision,
     pub ram: Vec<(u64, u64)>,
     /// Words below the top sixteen and cells, at most.
     pub words: usize,
@@ -31,15 +33,17 @@ impl Base {
     /// The first steps of a random program, recorded by the library.
     fn of_a_job(random: &mut Random) -> Base {
         let job = if random.once_in(2) { program(random) } else { remembering(random) };
-        let mut opened = Job::open(&job.opening(), Sizes::RUNJOB).expect("a random program opens");
+        let revision = random.pick(&Revision::ALL);
+        let opening = Opening { revision, ..job.opening() };
+        let mut opened = Job::open(&opening, Sizes::RUNJOB).expect("a random program opens");
         let mut log = vec![0; 20_000];
         let budget = random.between(1, 150);
         let ran = opened.trace_execution(budget, &mut log);
         log.truncate(ran.bytes);
-        Base::measured(log, job.ram)
+        Base::measured(log, revision, job.ram)
     }
 
-    /// Stack and RAM records alone, as a job might write them.
+    /// Stack and RAM records, as a job might write them, and some that are only measured.
     fn of_memory(random: &mut Random) -> Base {
         // few cells and records, or many
         let is_long = random.once_in(20);
@@ -48,12 +52,16 @@ impl Base {
         let mut held: BTreeMap<u64, u64> = ram.iter().copied().collect();
         let mut known: Vec<u64> = held.keys().copied().collect();
         let mut next_address = walk(random, is_long);
+        let revision = random.pick(&Revision::ALL);
         // few records for a clock, or many
         let pace = random.pick(&[1, 1, 4, 30]);
         let (mut stack, mut all, mut at) = (vec![], vec![], Clock::default());
         for _ in 0..random.between(1, most_records) {
             if random.once_in(pace) {
                 at.advance(random.below(3) as u32);
+            }
+            if random.once_in(10) {
+                all.push(of_revision(revision, measured(random), at.clock));
             }
             let clock = at.clock;
             let pointer = stack.len() as u64 + 16;
@@ -79,13 +87,13 @@ impl Base {
             };
             all.push(at.put(record));
         }
-        Base::measured(bytes_of(&all), ram)
+        Base::measured(bytes_of(&all), revision, ram)
     }
 
-    pub fn measured(log: Vec<u8>, ram: Vec<(u64, u64)>) -> Base {
+    pub fn measured(log: Vec<u8>, revision: Revision, ram: Vec<(u64, u64)>) -> Base {
         let mut held: BTreeSet<u64> = ram.iter().map(|cell| cell.0).collect();
         let (mut words, mut last_clock) = (0, 0);
-        for record in records(&log) {
+        for record in records_of(&log, revision) {
             match record.expect("the log is sound") {
                 Record::Stack { clock, pointer, .. } => {
                     words = words.max(pointer as usize - 15);
@@ -97,10 +105,11 @@ impl Base {
                     }
                     last_clock = clock.into();
                 }
+                Record::Tip5 { clock: Some(clock), .. } | Record::U32 { clock: Some(clock), .. } => last_clock = clock.into(),
                 _ => {}
             }
         }
-        Base { log, ram, words, cells: held.len(), last_clock }
+        Base { log, revision, ram, words, cells: held.len(), last_clock }
     }
 
     /// Just what the log needs, or a little more, or a cell too few, and the whole log or a part of it to be read.
@@ -122,7 +131,11 @@ impl Base {
             1 | 2 => random.below(self.last_clock + 2),
             _ => random.pick(&[u64::MAX, self.last_clock + 1]),
         };
-        Lent { answer, clock, cells: self.ram.len() as u64, addresses, values, words: vec![0; words] }
+        let other = random.next();
+        // those whose lower bytes are a revision too
+        let any = [0, 1, 1, 2, 2, 3, (1 << 8) + 1, (1 << 32) + 2, (1 << 63) + 1, u64::MAX, other];
+        let revision = if random.once_in(12) { random.pick(&any) } else { self.revision.number() };
+        Lent { answer, revision, clock, cells: self.ram.len() as u64, addresses, values, words: vec![0; words] }
     }
 }
 
@@ -185,7 +198,7 @@ fn damage_log(log: &mut Vec<u8>, bases: &[Base], random: &mut Random) {
     let place = random.index(all.len());
     let at = all[place];
     let end = all.get(place + 1).copied().unwrap_or(log.len());
-    match random.below(16) {
+    match random.below(19) {
         0 => log.truncate(random.index(log.len())),
         1 => log.truncate(at),
         2 => {
@@ -205,11 +218,11 @@ fn damage_log(log: &mut Vec<u8>, bases: &[Base], random: &mut Random) {
             log.splice(to_place..to_place, other[from..to].iter().copied());
         }
         6 => {
-            let length = random.pick(&[0, 1, 2, 20, 22, 23, 24, 25, 772, 774, 0xffff]);
+            let length = random.pick(&[0, 1, 2, 20, 22, 23, 24, 25, 26, 772, 774, 776, 778, 0xffff]);
             set(log, at, 2, length);
         }
         7 => {
-            let kind = random.pick(&[0, 1, 2, 3, 4, 4, 5, 5, 6, 11, 0x104, 0xffff]);
+            let kind = random.pick(&[0, 1, 2, 3, 4, 4, 5, 5, 6, 7, 8, 11, 0x104, 0x107, 0xffff]);
             set(log, at + 2, 2, kind);
         }
         // two neighbours, or two any, swapped
@@ -230,6 +243,7 @@ fn damage_log(log: &mut Vec<u8>, bases: &[Base], random: &mut Random) {
             let record = log[at..end].to_vec();
             log.splice(at..at, record);
         }
+        14..=16 => mix(log, &all, place, random),
         _ => damage_fields(log, at, random),
     }
 }

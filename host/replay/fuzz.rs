@@ -1,6 +1,7 @@
 //! Damaged logs: each replayed twice between guards and held to the model.
 use crate::damage::{input, Base};
 use crate::lent::{Arena, Lent};
+use crate::revisions::met;
 use crate::splice::{breaking, Breaking};
 use host::model::replay::replay_by_bytes as model;
 use host::random::Random;
@@ -13,11 +14,12 @@ pub const PIECE: u64 = 20_000;
 const BASES: usize = 40;
 
 /// What a run has to meet.
-pub const KINDS: [&str; 22] = [
+pub const KINDS: [&str; 23] = [
     "replayed whole",
     "replayed to a clock",
     "refused with 1",
     "refused with 2",
+    "refused with 4",
     "refused with 5",
     "refused with 5, an address twice",
     "refused with 5, addresses fall",
@@ -46,16 +48,21 @@ pub fn piece(seed: u64, piece: u64, watched: &Watched) -> Result<Counts<&'static
     for call in 0..PIECE {
         let (log, lent) = input(&bases, &mut random);
         watched.begins(call);
-        let kind =
+        let (kind, of_revisions) =
             compare(&log, &lent, &mut arenas).map_err(|text| format!("call {call}: {text}\nlog: {log:?}\nlent: {lent:?}"))?;
         watched.ends();
-        *counts.entry(kind).or_default() += 1;
+        for kind in [kind].into_iter().chain(of_revisions) {
+            *counts.entry(kind).or_default() += 1;
+        }
     }
     Ok(counts)
 }
 
-/// The library twice, with other guards the second time, beside the model. Gives the kind of what was met.
-fn compare(log: &[u8], lent: &Lent, arenas: &mut [Arena; 2]) -> Result<&'static str, String> {
+/// What a call met: one of `KINDS`, and perhaps one of `revisions::KINDS`.
+type Met = (&'static str, Option<&'static str>);
+
+/// The library twice, with other guards the second time, beside the model.
+fn compare(log: &[u8], lent: &Lent, arenas: &mut [Arena; 2]) -> Result<Met, String> {
     let mut expected = lent.clone();
     let number = expected.replay(model, log);
     let unchanged = Lent { answer: expected.answer.clone(), ..lent.clone() };
@@ -65,7 +72,7 @@ fn compare(log: &[u8], lent: &Lent, arenas: &mut [Arena; 2]) -> Result<&'static 
     for arena in arenas {
         arena.replay(replay, log, lent, (number, &expected))?;
     }
-    kind(number, log, lent)
+    Ok((kind(number, log, lent)?, met(number, log, lent)))
 }
 
 fn kind(number: u64, log: &[u8], lent: &Lent) -> Result<&'static str, String> {
@@ -75,6 +82,7 @@ fn kind(number: u64, log: &[u8], lent: &Lent) -> Result<&'static str, String> {
         0 => "replayed to a clock",
         1 => "refused with 1",
         2 => "refused with 2",
+        4 => "refused with 4",
         5 => neighbours(lent),
         40 => "refused with 40",
         41 => "refused with 41",
@@ -88,7 +96,7 @@ fn kind(number: u64, log: &[u8], lent: &Lent) -> Result<&'static str, String> {
 
 /// What the first record is that breaks the rule for its clock, if that is the one refused.
 fn crowded(number: u64, log: &[u8], lent: &Lent) -> Option<&'static str> {
-    let Breaking { place, record, turns } = breaking(log)?;
+    let Breaking { place, record, turns, .. } = breaking(log)?;
     let mut before = lent.clone();
     if before.replay(model, &log[..place]) != 0 || lent.clone().replay(model, &log[..place + 25]) != number {
         return None;

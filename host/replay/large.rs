@@ -1,5 +1,5 @@
 //! Logs that write to more addresses than the library's table of written cells holds, so that it reads them in groups of
-//! addresses: a fixed list, each log whole, cut short and damaged, held to the model between guards.
+//! addresses: a fixed list, each log whole, cut short and damaged, in each revision, held to the model between guards.
 use crate::lent::{Arena, Lent};
 use host::field::{add, sub, P};
 use host::model::replay::replay as model;
@@ -224,12 +224,29 @@ impl Checked {
         Ok(())
     }
 
-    /// One call with so many cells, which must come to what the model does, and to this number.
+    /// A call with so many cells in each revision, which must come to what the model does, and to this number.
     fn call(&mut self, cells: usize, clock: u64, number: Option<u64>, watched: &Watched) -> Result<(), String> {
-        let Large { log, ram, .. } = &self.large;
+        let log = self.large.log.clone();
+        let by_model = self.call_in(1, &log, cells, clock, number, watched)?;
+        let found = self.call_in(2, &clocked(&log), cells, clock, Some(by_model), watched);
+        found.map(|_| ()).map_err(|text| format!("revision 2, {text}"))
+    }
+
+    /// Gives the model's number.
+    fn call_in(
+        &mut self,
+        revision: u64,
+        log: &[u8],
+        cells: usize,
+        clock: u64,
+        number: Option<u64>,
+        watched: &Watched,
+    ) -> Result<u64, String> {
+        let ram = &self.large.ram;
         self.calls += 1;
         let mut lent = Lent {
             answer: vec![9; 3],
+            revision,
             clock,
             cells: ram.len() as u64,
             // no words, and they stay
@@ -258,6 +275,20 @@ impl Checked {
             _ => "refused with another number",
         };
         *self.counts.entry(kind).or_default() += 1;
-        found.map_err(|text| format!("{cells} cells, clock {clock}: {text}"))
+        found.map_err(|text| format!("{cells} cells, clock {clock}: {text}"))?;
+        Ok(by_model)
     }
+}
+
+/// The log in revision 2, with a U32 record before every eighth record, at its clock.
+fn clocked(log: &[u8]) -> Vec<u8> {
+    let mut made = vec![];
+    for (i, record) in log.chunks(BYTES).enumerate() {
+        if i % 8 == 0 {
+            let clock = u32::from_le_bytes(record[4..8].try_into().unwrap());
+            Record::U32 { clock: Some(clock), opcode: 4, left: i as u64, right: u64::MAX }.put(&mut made);
+        }
+        made.extend(record);
+    }
+    made
 }

@@ -22,6 +22,7 @@ fn full_ram() {
     let longest = LONGEST as u64;
     let mut before = Lent {
         answer: vec![7; 3],
+        revision: 1,
         clock: u64::MAX,
         cells: longest,
         addresses: (1..=longest).map(|i| 2 * i).collect(),
@@ -61,8 +62,15 @@ fn full_ram() {
 }
 
 fn call(log: &[u8], cells: usize, words: usize, number: u64) {
-    let lent =
-        Lent { answer: vec![7; 3], clock: 9, cells: 0, addresses: vec![0; cells], values: vec![0; cells], words: vec![0; words] };
+    let lent = Lent {
+        answer: vec![7; 3],
+        revision: 1,
+        clock: 9,
+        cells: 0,
+        addresses: vec![0; cells],
+        values: vec![0; cells],
+        words: vec![0; words],
+    };
     for by in [replay, model] {
         let mut lent = lent.clone();
         assert_eq!(lent.replay(by, log), number);

@@ -6,6 +6,8 @@ use host::model::replay::Replay;
 #[derive(Clone, Debug, PartialEq, Eq)]
 pub struct Lent {
     pub answer: Vec<u64>,
+    /// Of the log.
+    pub revision: u64,
     pub clock: u64,
     pub cells: u64,
     pub addresses: Vec<u64>,
@@ -16,7 +18,7 @@ pub struct Lent {
 impl Lent {
     /// The call on it; gives the number.
     pub fn replay(&mut self, by: Replay, log: &[u8]) -> u64 {
-        by(&mut self.answer, log, self.clock, self.cells, &mut self.addresses, &mut self.values, &mut self.words)
+        by(&mut self.answer, log, self.revision, self.clock, self.cells, &mut self.addresses, &mut self.values, &mut self.words)
     }
 
     fn slices(&self) -> [(&'static str, &Vec<u64>); 4] {
@@ -44,7 +46,7 @@ impl Arena {
         }
         self.log.set(log);
         let [answer, addresses, values, words] = self.slices.each_mut().map(Guarded::slice);
-        let number = by(answer, self.log.slice(), lent.clock, lent.cells, addresses, values, words);
+        let number = by(answer, self.log.slice(), lent.revision, lent.clock, lent.cells, addresses, values, words);
         if number != expected.0 {
             return Err(format!("{number} instead of {}", expected.0));
         }

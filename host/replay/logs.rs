@@ -1,15 +1,17 @@
-//! Logs of the original Rust (`oracle log`) for random jobs, replayed to their clocks: depth, cells and stack are the Rust's after
-//! so many steps; and with each read altered, which is refused.
+//! Logs of the original Rust (`oracle log`) for random jobs, in each revision, replayed to their clocks: depth, cells and stack are
+//! the Rust's after so many steps; and with each read altered, which is refused. The library's own log in each revision is the same.
 use crate::lent::{Arena, Lent};
 use host::field::P;
 use host::job::Job;
+use host::model::put_clock;
 use host::model::replay::replay as model;
 use host::oracle::{Oracle, Report, State};
 use host::programs::{program, remembering};
 use host::random::Random;
 use host::work::{Counts, Watched};
 use kixombu::exports::{replay, replayed};
-use kixombu::{bytes_of, records, Record};
+use kixombu::listing::trace_in_pieces;
+use kixombu::{bytes_of, records_of, Opening, Record, Revision, Sizes};
 
 /// How many jobs are one piece of work.
 pub const PIECE: u64 = 10;
@@ -20,8 +22,9 @@ const SOME: usize = 60;
 const READS: usize = 500;
 
 /// What a run has to meet.
-pub const KINDS: [&str; 15] = [
-    "jobs",
+pub const KINDS: [&str; 19] = [
+    "jobs in revision 1",
+    "jobs in revision 2",
     "jobs to every clock",
     "stack writes",
     "stack reads",
@@ -32,6 +35,9 @@ pub const KINDS: [&str; 15] = [
     "RAM writes to held cells",
     "RAM reads",
     "RAM reads of absent addresses",
+    "Tip5 records with a clock",
+    "U32 records with a clock",
+    "replays stopped at kind 6 or 7",
     "altered reads refused with 40",
     "altered reads refused with 43",
     "altered reads behind the stop",
@@ -57,17 +63,56 @@ impl Logs {
             if found.is_ok() {
                 let job = &jobs[place];
                 let log = self.oracle.log(piece, job);
-                found = Checked::new(job, &report, log, &mut random)
-                    .and_then(|mut checked| checked.check(&mut counts, &mut random, watched))
-                    .map_err(|text| format!("job {place} of the piece, {text}\njob: {job:?}"));
+                found = Revision::ALL.into_iter().try_for_each(|revision| {
+                    Checked::new(revision, job, &report, &log, &mut random)
+                        .and_then(|mut checked| checked.check(&mut counts, &mut random, watched))
+                        .map_err(|text| format!("job {place} of the piece, revision {revision}, {text}\njob: {job:?}"))
+                });
             }
         });
         found.map(|()| counts)
     }
 }
 
+/// A log in revision 2, from that in revision 1 and the clock of each record, byte by byte: kinds 2 and 3 are 6 and 7, with the
+/// clock put in first among the fields.
+fn with_clocks(log: &[u8], clocks: &[u32]) -> Vec<u8> {
+    let (mut left, mut made) = (log, vec![]);
+    for clock in clocks {
+        let (length, kind) = (u16::from_le_bytes([left[0], left[1]]), u16::from_le_bytes([left[2], left[3]]));
+        let (record, behind) = left.split_at(2 + usize::from(length));
+        if let 2 | 3 = kind {
+            made.extend([length + 4, kind + 4].map(u16::to_le_bytes).as_flattened());
+            made.extend(clock.to_le_bytes());
+            made.extend(&record[4..]);
+        } else {
+            made.extend(record);
+        }
+        left = behind;
+    }
+    assert!(left.is_empty(), "a clock for each record");
+    made
+}
+
+/// What the library writes for so many steps.
+fn recorded(job: &Job, revision: Revision, steps: usize) -> Vec<u8> {
+    const ROOM: usize = 1 << 16;
+    let sizes = Sizes { op_stack: ROOM, jump_stack: ROOM, ram: ROOM, output: ROOM };
+    let opening = Opening { revision, ..job.opening() };
+    let mut opened = kixombu::Job::open(&opening, sizes).expect("a job of a random program opens");
+    let mut log = vec![];
+    let put = |bytes: &[u8], _| {
+        log.extend_from_slice(bytes);
+        Ok(())
+    };
+    let ran = trace_in_pieces(&mut opened, steps as u64, put).expect("nothing is written elsewhere");
+    assert_eq!(ran.steps, steps as u64, "the library ends another way: {:?}", ran.ending);
+    log
+}
+
 /// A job's log, and what each clock must give.
 struct Checked {
+    revision: Revision,
     log: Vec<u8>,
     records: Vec<Record>,
     /// The Rust's states: the opening, then what each step left. Their cells are by address.
@@ -79,23 +124,37 @@ struct Checked {
 }
 
 impl Checked {
-    fn new(job: &Job, report: &Report, log: Vec<u8>, random: &mut Random) -> Result<Checked, String> {
+    /// From the Rust's log, which is of revision 1.
+    fn new(revision: Revision, job: &Job, report: &Report, log: &[u8], random: &mut Random) -> Result<Checked, String> {
         let opened = report.opened.clone().expect("a job of a random program opens");
-        let (mut states, mut steps) = (vec![opened], vec![]);
+        let (mut states, mut steps, mut clocks) = (vec![opened], vec![], vec![]);
         for step in &report.tried {
             if let Ok(records) = &step.result {
-                states.push(step.state.clone());
                 steps.extend(records.clone());
+                clocks.resize(steps.len(), states.last().unwrap().clock as u32);
+                states.push(step.state.clone());
             }
         }
         if bytes_of(&steps) != log {
             return Err("the oracle's log is not its calls' bytes".to_string());
         }
+        let mut log = log.to_vec();
+        if revision == Revision::Two {
+            log = with_clocks(&log, &clocks);
+            steps.iter_mut().zip(&clocks).for_each(|(record, &clock)| put_clock(record, clock));
+        }
+        if bytes_of(&steps) != log {
+            return Err("the log with clocks is not its records' bytes".to_string());
+        }
+        if recorded(job, revision, states.len() - 1) != log {
+            return Err("the library's log is not the oracle's".to_string());
+        }
         let deepest = states.iter().map(|state| state.stack.len()).max().unwrap();
         let most = states.last().unwrap().ram.len();
         let lent = lent(&job.ram, most + random.index(3), deepest - 16 + random.pick(&[0, 1, 16]), random);
+        let lent = Lent { revision: revision.number(), ..lent };
         let arena = Arena::new(random.next());
-        Ok(Checked { log, records: steps, states, lent, arena, calls: 0 })
+        Ok(Checked { revision, log, records: steps, states, lent, arena, calls: 0 })
     }
 
     fn check(&mut self, counts: &mut Counts<&'static str>, random: &mut Random, watched: &Watched) -> Result<(), String> {
@@ -111,6 +170,9 @@ impl Checked {
         for clock in clocks {
             self.replay_to(clock, watched)?;
             *counts.entry("replays").or_default() += 1;
+            if self.stops_at_clocked(clock) {
+                *counts.entry("replays stopped at kind 6 or 7").or_default() += 1;
+            }
         }
         self.one_cell_short(counts, watched)?;
         self.altered(counts, random, watched)
@@ -118,7 +180,7 @@ impl Checked {
 
     fn count(&self, counts: &mut Counts<&'static str>) {
         let mut add = |name, more: u64| *counts.entry(name).or_default() += more;
-        add("jobs", 1);
+        add(if self.revision == Revision::Two { "jobs in revision 2" } else { "jobs in revision 1" }, 1);
         add("bytes of logs", self.log.len() as u64);
         let mut held: Vec<u64> = self.states[0].ram.iter().map(|cell| cell.0).collect();
         for record in &self.records {
@@ -139,9 +201,23 @@ impl Checked {
                     (false, Ok(_)) => add("RAM reads", 1),
                     (false, Err(_)) => add("RAM reads of absent addresses", 1),
                 },
+                Record::Tip5 { clock: Some(_), .. } => add("Tip5 records with a clock", 1),
+                Record::U32 { clock: Some(_), .. } => add("U32 records with a clock", 1),
                 _ => add("records only measured", 1),
             }
         }
+    }
+
+    /// Whether the first record at the clock or behind it is of kind 6 or 7.
+    fn stops_at_clocked(&self, stop: u64) -> bool {
+        let stops = |record: &Record| match *record {
+            Record::Stack { clock, .. } | Record::Ram { clock, .. } => (u64::from(clock) >= stop).then_some(false),
+            Record::Tip5 { clock: Some(clock), .. } | Record::U32 { clock: Some(clock), .. } => {
+                (u64::from(clock) >= stop).then_some(true)
+            }
+            _ => None,
+        };
+        self.records.iter().find_map(stops) == Some(true)
     }
 
     /// What the Rust's state after so many steps, or after all, makes of what is lent.
@@ -250,7 +326,7 @@ impl Checked {
             }
         }
         self.log[at..at + 8].copy_from_slice(&value.to_le_bytes());
-        debug_assert!(records(&self.log).all(|record| record.is_ok()));
+        debug_assert!(records_of(&self.log, self.revision).all(|record| record.is_ok()));
         Ok(())
     }
 }
@@ -260,6 +336,7 @@ fn lent(ram: &[(u64, u64)], cells: usize, words: usize, random: &mut Random) -> 
     let mut any = |n: usize| -> Vec<u64> { (0..n).map(|_| random.next()).collect() };
     let mut lent = Lent {
         answer: any(replayed::ALL),
+        revision: 1,
         clock: 0,
         cells: ram.len() as u64,
         addresses: any(cells),

@@ -10,6 +10,7 @@ mod large;
 mod lengths;
 mod lent;
 mod logs;
+mod revisions;
 mod splice;
 
 use host::work::{fail, in_pieces, Counts, Watched};
@@ -31,7 +32,8 @@ fn main() {
                 lengths::check();
                 large::check().unwrap_or_else(|text| fail(&text));
             }
-            run("fuzz", words, 10_000_000, fuzz::PIECE, &fuzz::KINDS, &fuzz::piece)
+            let kinds = [&fuzz::KINDS[..], &revisions::KINDS].concat();
+            run("fuzz", words, 10_000_000, fuzz::PIECE, &kinds, &fuzz::piece)
         }
         ["large"] => large::check(),
         ["bench"] => {
@@ -73,7 +75,7 @@ fn run(mode: &str, words: &[&str], default: u64, size: u64, kinds: &[&'static st
 }
 
 fn print(counts: &Counts<&'static str>) {
-    counts.iter().for_each(|(name, count)| println!("{name:<54}{count:>12}"));
+    counts.iter().for_each(|(name, count)| println!("{name:<58}{count:>12}"));
 }
 
 fn usage() -> ! {

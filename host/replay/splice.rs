@@ -1,15 +1,17 @@
-//! Spliced logs, which 45 is for: so many records of one clock as no step writes, or nearly, and logs stitched from two.
+//! Spliced logs, which 45 is for: so many records of one clock as no step writes, or nearly, and logs stitched from two. Of either
+//! revision, with records between that do not count.
 use crate::damage::Base;
+use crate::revisions::{measured, of_revision};
 use host::cells::near;
 use host::field::P;
 use host::random::Random;
-use kixombu::{bytes_of, records, Record};
+use kixombu::{bytes_of, records, Record, Revision};
 use std::collections::BTreeMap;
 
 /// Of a clock's records so many are of the stack, all in one direction, and so many of RAM, at most.
 const MOST: u32 = 10;
 
-/// The stack and RAM records of a clock.
+/// The stack and RAM records of a clock; the others do not count.
 #[derive(Clone, Copy, Debug, Default)]
 pub struct Clock {
     pub clock: u32,
@@ -59,16 +61,27 @@ pub struct Breaking {
     pub record: Record,
     /// Whether it is of the stack and goes the other way than those before it; else it is the eleventh.
     pub turns: bool,
+    /// Whether a record of kind 6 or 7 is at its clock, behind the first that counts there.
+    pub has_between: bool,
 }
 
 /// The first.
 pub fn breaking(log: &[u8]) -> Option<Breaking> {
-    let (mut clock, mut place) = (Clock::default(), 0);
+    let (mut clock, mut place, mut has_between) = (Clock::default(), 0, false);
     for record in records(log).map_while(Result::ok) {
-        clock.advance(clock_of(&record).map_or(0, |now| now.saturating_sub(clock.clock)));
+        match record {
+            Record::Stack { clock: now, .. } | Record::Ram { clock: now, .. } if now > clock.clock => {
+                clock.advance(now - clock.clock);
+                has_between = false;
+            }
+            Record::Tip5 { clock: now, .. } | Record::U32 { clock: now, .. } if clock.stack + clock.ram > 0 => {
+                has_between |= now == Some(clock.clock);
+            }
+            _ => {}
+        }
         if !clock.has_room(&record) {
             let turns = matches!(record, Record::Stack { write, .. } if write != clock.write);
-            return Some(Breaking { place, record, turns });
+            return Some(Breaking { place, record, turns, has_between });
         }
         clock.count(&record);
         place += bytes_of(std::slice::from_ref(&record)).len();
@@ -79,14 +92,17 @@ pub fn breaking(log: &[u8]) -> Option<Breaking> {
 fn clock_of(record: &Record) -> Option<u32> {
     match *record {
         Record::Stack { clock, .. } | Record::Ram { clock, .. } => Some(clock),
+        Record::Tip5 { clock, .. } | Record::U32 { clock, .. } => clock,
         _ => None,
     }
 }
 
 /// The record at another clock.
 fn at(mut record: Record, then: impl Fn(u32) -> u32) -> Record {
-    if let Record::Stack { clock, .. } | Record::Ram { clock, .. } = &mut record {
-        *clock = then(*clock);
+    match &mut record {
+        Record::Stack { clock, .. } | Record::Ram { clock, .. } => *clock = then(*clock),
+        Record::Tip5 { clock, .. } | Record::U32 { clock, .. } => *clock = clock.map(then),
+        _ => {}
     }
     record
 }
@@ -115,9 +131,10 @@ impl State {
     }
 }
 
-/// Records put into a log, all but the last few at one clock.
+/// Records put into a log, all but the last few at one clock or two.
 struct Crowd {
     made: Vec<Record>,
+    revision: Revision,
     state: State,
     /// Cells and words in use before the last write to RAM, and to the stack.
     cells: usize,
@@ -155,11 +172,20 @@ impl Crowd {
         self.put(Record::Ram { clock: self.state.clock, address, value, write });
     }
 
-    /// Of one kind and direction, or two.
+    /// One that does not count.
+    fn between(&mut self, random: &mut Random) {
+        let record = of_revision(self.revision, measured(random), self.state.clock);
+        self.put(record);
+    }
+
+    /// Of one kind and direction, or two, and perhaps some between that do not count.
     fn fill(&mut self, random: &mut Random) {
         let count = random.pick(&[1, 2, 9, 10, 10, 11, 11, 12]);
-        let way = random.below(9);
+        let (way, has_between) = (random.below(9), random.once_in(3));
         for i in 0..count {
+            if has_between && random.once_in(6) {
+                self.between(random);
+            }
             match way {
                 0 | 1 => self.write(random.word()),
                 2 => self.read(),
@@ -221,9 +247,15 @@ impl Base {
     /// The log goes on behind the crowd, at later clocks. Lent may be just what the crowd's last writes do not find.
     fn crowded(&self, front: Vec<Record>, state: State, back: Vec<Record>, random: &mut Random) -> Base {
         let (stack, clock) = (state.stack.clone(), state.clock);
-        let mut crowd = Crowd { made: front, cells: state.held.len(), words: state.stack.len(), state };
+        let mut crowd = Crowd { made: front, revision: self.revision, cells: state.held.len(), words: state.stack.len(), state };
         crowd.state.clock += random.below(2) as u32;
         crowd.fill(random);
+        // another one at the next clock, which a record that does not count is the first to name
+        if random.once_in(3) {
+            crowd.state.clock += 1;
+            crowd.between(random);
+            crowd.fill(random);
+        }
         let (cells, words) = (crowd.cells, crowd.words);
         if random.once_in(4) {
             crowd.alter();
@@ -231,7 +263,7 @@ impl Base {
         crowd.restore(&stack);
         let later = crowd.state.clock - clock + random.below(2) as u32;
         crowd.made.extend(back.into_iter().map(|record| at(record, |clock| clock + later)));
-        let mut made = Base::measured(bytes_of(&crowd.made), self.ram.clone());
+        let mut made = Base::measured(bytes_of(&crowd.made), self.revision, self.ram.clone());
         if random.once_in(3) {
             (made.cells, made.words) = (cells, words);
         }
@@ -249,7 +281,12 @@ impl Base {
         let place = if places.is_empty() { random.index(other.len() + 1) } else { random.pick(&places) };
         let begins = other[place..].iter().find_map(clock_of).unwrap_or(0);
         let to = state.clock + random.pick(&[0, 0, 1, 2]);
-        front.extend(other[place..].iter().cloned().map(|record| at(record, |clock| clock - begins + to)));
-        Base::measured(bytes_of(&front), self.ram.clone())
+        let mut now = to;
+        for record in &other[place..] {
+            let record = of_revision(self.revision, at(record.clone(), |clock| clock - begins + to), now);
+            now = clock_of(&record).unwrap_or(now);
+            front.push(record);
+        }
+        Base::measured(bytes_of(&front), self.revision, self.ram.clone())
     }
 }

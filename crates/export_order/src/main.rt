@@ -73,7 +73,7 @@ const VALUES: [u64; 4] = [99, 7, 0, 0];
 // What is lent to be changed. The lengths differ, but those that must be the same.
 struct Lent {
     number: u64,
-    registers: [u64; 27],
+    registers: [u64; 28],
     answer: [u64; 7],
     op_stack: [u64; 24],
     origins: [u64; 8],
@@ -90,7 +90,7 @@ fn open() -> Lent {
     let secret = SECRET;
     let digests = DIGESTS;
     let digest = [401u64, 402, 403, 404, 405];
-    let mut registers = [0u64; 27];
+    let mut registers = [0u64; 28];
     let mut answer = [0u64; 7];
     let mut op_stack = [0u64; 24];
     let mut origins = [0u64; 8];
@@ -102,6 +102,7 @@ fn open() -> Lent {
     let number = triton_open(
         &mut registers,
         &mut answer,
+        1,
         &digest,
         2,
         &opcodes,
@@ -138,6 +139,7 @@ fn replay(log: &[u8]) {
     let number = triton_replay(
         &mut rebuilt,
         log,
+        1,
         4,
         2,
         &mut addresses,

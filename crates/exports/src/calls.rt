@@ -5,7 +5,7 @@ ghost use Rattle.exports_calls.specs.ReplayCall.{replayCall, replied};
 ghost use Rattle.exports_calls.specs.RunCall.{runCall, traceCall};
 ghost use Rattle.exports_calls.specs.StepCall.{stepCall};
 ghost use Rattle.exports_calls.specs.ThinCall.{thinCall, thinly};
-ghost use Rattle.exports_words.specs.Calls.{called, recorded};
+ghost use Rattle.exports_words.specs.Calls.{interfaceVersion, called, recorded};
 ghost use Rattle.machine.specs.Ram.{cells as cellsOf};
 ghost use Rattle.machine.specs.Lent.{codeIn, memoryIn, memoryOut};
 ghost use mathlib.Core.Path.{_≡_};
@@ -18,11 +18,20 @@ use exports_calls::thin::Registers;
 use exports_calls::thin::step_reply;
 use exports_calls::trace::trace_call;
 
+// The number of this interface. It is raised where a call gets other parameters, or a word another meaning.
+#[no_mangle]
+pub extern "C" fn triton_interface_version() -> u64
+    ensures { λ r. ⌜ r ≡ interfaceVersion ⌝ }
+{
+    1
+}
+
 // A refused open changes nothing that is lent, and the registers keep their words.
 #[no_mangle]
 pub extern "C" fn triton_open(
     registers: &mut [u64],
     answer: &mut [u64],
+    revision: u64,
     digest: &[u64],
     cells: u64,
     opcodes: &[u64],
@@ -39,13 +48,14 @@ pub extern "C" fn triton_open(
 ) -> u64
     ensures { λ r. ⌜ called r (now (registers .exit)) (now (answer .exit))
         (memoryOut «op_stack» origins destinations addresses values output)
-        ≡ openCall (now (registers .entry)) (now (answer .entry)) (now (digest .entry)) cells
+        ≡ openCall (now (registers .entry)) (now (answer .entry)) revision (now (digest .entry)) cells
         (codeIn opcodes arguments public secret digests)
         (memoryIn «op_stack» origins destinations addresses values output) ⌝ }
 {
     open_call(
         registers,
         answer,
+        revision,
         digest,
         cells,
         opcodes,
@@ -276,6 +286,7 @@ pub extern "C" fn triton_helper_variables(
 pub extern "C" fn triton_replay(
     rebuilt: &mut [u64],
     log: &[u8],
+    revision: u64,
     clock: u64,
     cells: u64,
     addresses: &mut [u64],
@@ -283,7 +294,16 @@ pub extern "C" fn triton_replay(
     words: &mut [u64],
 ) -> u64
     ensures { λ r. ⌜ replied r (now (rebuilt .exit)) (now (words .exit)) (now (addresses .exit)) (now (values .exit))
-        ≡ replayCall (now (rebuilt .entry)) (now (log .entry)) clock (cellsOf cells (now (addresses .entry)) (now (values .entry))) (now (words .entry)) ⌝ }
+        ≡ replayCall (now (rebuilt .entry)) (now (log .entry)) revision clock (cellsOf cells (now (addresses .entry)) (now (values .entry))) (now (words .entry)) ⌝ }
 {
-    replay_call(rebuilt, log, clock, cells, addresses, values, words)
+    replay_call(
+        rebuilt,
+        log,
+        revision,
+        clock,
+        cells,
+        addresses,
+        values,
+        words,
+    )
 }

@@ -1,16 +1,17 @@
 // The C interface: the machine's calls over numbers and slices. A slice goes over as a pointer and a length.
 //
-// triton_open(registers, answer, digest, cells, code, memory)
+// triton_interface_version()
+// triton_open(registers, answer, revision, digest, cells, code, memory)
 // triton_step(registers, answer, code, memory, calls)
 // triton_step_registers(registers, answer, code, memory, calls)
 // triton_run(registers, answer, budget, code, memory)
 // triton_trace_execution(registers, answer, budget, code, memory, calls)
 // triton_helper_variables(registers, helpers, code, memory)
-// triton_replay(rebuilt, log, clock, cells, addresses, values, words)
+// triton_replay(rebuilt, log, revision, clock, cells, addresses, values, words)
 //
 // code is opcodes, arguments, public, secret, digests, and memory is op_stack, origins, destinations, addresses, values, output: a slice each.
 //
-// registers, 27 words (exports_words, specs/Registers.antt):
+// registers, 28 words (exports_words, specs/Registers.antt):
 //     0 clock, below 2^32
 //     1 pointer
 //     2 depth
@@ -23,6 +24,7 @@
 //     9 halted, 0 or 1
 //    10 whether the sponge is set, 0 or 1
 //    11 to 26 the sponge's words
+//    27 the log's revision, 1 or 2; any other word gives 4 by place A
 // answer, 7 words (exports_words, specs/Report.antt):
 //     0 how the call ended: 0 opened, taken or halted, 1 spent, 2 log full, 3 refused
 //     1 the refusal's number, 0 where the call is not refused
@@ -34,11 +36,11 @@
 // bytes; words is the stack slice, all 0 before the call.
 //
 // triton_step_registers is triton_step with the registers as a struct that is lent, `Registers` in exports_calls, src/thin.rt. A mirror in Rust is `#[repr(C)]`
-// with the same fields in the same order; it has 208 bytes, and those that are reserved stay as they are:
+// with the same fields in the same order; it has 216 bytes, and those that are reserved stay as they are:
 //     0 clock, 4 reserved, 4 bytes each
 //     8 pointer, 16 depth, 24 jumps, 32 cells, 40 outputs, 48 publics, 56 secrets, 64 digests, 8 bytes each
 //    72 halted, 73 whether the sponge is set, a byte each, 0 or 1; 74 to 79 reserved
-//    80 to 207 the sponge's words
+//    80 to 207 the sponge's words, 208 the log's revision, 8 bytes
 //
 // Each call gives the number too. One of these slices with another length, a clock at or above 2^32 and a mark other than 0 or 1 give 1: then
 // nothing lent is changed, and an answer of seven words says so; one of another length stays. open does not read the registers, only their length.

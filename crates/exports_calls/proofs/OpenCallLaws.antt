@@ -24,7 +24,7 @@ use Rattle.exports_calls.specs.OpenCall.{openFitsOf, unopened, openGives
 use Rattle.exports_words.proofs.RegistersLaws.{both}
 
 pub record OpenFits (w a g : List ℕ) : Type 0 where
-  pub registers : length w ≡ 27
+  pub registers : length w ≡ 28
   pub answer : length a ≡ 7
   pub digest : length g ≡ 5
 
@@ -53,23 +53,23 @@ module _ (w : List ℕ) (c : Code) (m : Memory) {o : Outcome} {x : Answer} {s : 
   unopened-gives r z e h =
       rw (h .answer, e, ne-eqb (r .number) 0 z) (λ d. unopened w ((h .left ∙ ap (leftBy (machine noState c m)) e) d .memory) r)
 
-module _ (w a g : List ℕ) (k : ℕ) (c : Code) (m : Memory) {t : Bool} (e : t ≡ openFitsOf w a g) where
-  open-gives : {x : Moved} {n : Memory} → Opens g c m k x n →
+module _ (w a : List ℕ) (v : ℕ) (g : List ℕ) (k : ℕ) (c : Code) (m : Memory) {t : Bool} (e : t ≡ openFitsOf w a g) where
+  open-gives : {x : Moved} {n : Memory} → Opens v g c m k x n →
       called (openReport (answerIn (x .answer)) .number) (openedRegisters (openReport (answerIn (x .answer)) .number) (x .state) w) (answerOf (openReport (answerIn (x .answer)))) n
-      ≡ openGives w m (openOf g c m k)
-  open-gives {x} {n} h = go (eqb (openA g c m k) 0) refl
+      ≡ openGives w m (openOf v g c m k)
+  open-gives {x} {n} h = go (eqb (openA v g c m k) 0) refl
     where
-      go : (y : Bool) → eqb (openA g c m k) 0 ≡ y →
+      go : (y : Bool) → eqb (openA v g c m k) 0 ≡ y →
           called (openReport (answerIn (x .answer)) .number) (openedRegisters (openReport (answerIn (x .answer)) .number) (x .state) w) (answerOf (openReport (answerIn (x .answer)))) n
-          ≡ openGives w m (openOf g c m k)
-      go true z = opened-gives w c m (opened g c m k) (open-accepts g c m k (eqb-true _ _ z)) (h .is)
-      go false z = unopened-gives w c m (plainly (openA g c m k)) (eqb-false _ _ z) (open-refuses g c m k (eqb-false _ _ z)) (h .is)
+          ≡ openGives w m (openOf v g c m k)
+      go true z = opened-gives w c m (opened v g c m k) (open-accepts v g c m k (eqb-true _ _ z)) (h .is)
+      go false z = unopened-gives w c m (plainly (openA v g c m k)) (eqb-false _ _ z) (open-refuses v g c m k (eqb-false _ _ z)) (h .is)
 
-  pub open-called : {d : List ℕ} {x : Moved} {n : Memory} {p : Report} {w2 a2 : List ℕ} → t ≡ true → d ≡ g → Opens d c m k x n →
-      p ≡ openReport (answerIn (x .answer)) → w2 ≡ openedRegisters (p .number) (x .state) w → a2 ≡ answerOf p → called (p .number) w2 a2 n ≡ openCall w a g k c m
+  pub open-called : {d : List ℕ} {x : Moved} {n : Memory} {p : Report} {w2 a2 : List ℕ} → t ≡ true → d ≡ g → Opens v d c m k x n →
+      p ≡ openReport (answerIn (x .answer)) → w2 ≡ openedRegisters (p .number) (x .state) w → a2 ≡ answerOf p → called (p .number) w2 a2 n ≡ openCall w a v g k c m
   unfolding openCall
-  open-called {x = x} {n = n} h f q i j l = rw (sym e ∙ h) (open-written (x .state) w n i j l ∙ open-gives (subst (λ (y : List ℕ). Opens y c m k x n) f q))
+  open-called {x = x} {n = n} h f q i j l = rw (sym e ∙ h) (open-written (x .state) w n i j l ∙ open-gives (subst (λ (y : List ℕ). Opens v y c m k x n) f q))
 
-  pub open-misfits : {a2 : List ℕ} → t ≡ false → a2 ≡ saidOf a misfit → called 1 w a2 m ≡ openCall w a g k c m
+  pub open-misfits : {a2 : List ℕ} → t ≡ false → a2 ≡ saidOf a misfit → called 1 w a2 m ≡ openCall w a v g k c m
   unfolding openCall
   open-misfits h q = rw (sym e ∙ h) (ap (λ (x : List ℕ). called 1 w x m) q)

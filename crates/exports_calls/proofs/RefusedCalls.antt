@@ -37,7 +37,7 @@ use Rattle.exports_words.proofs.CallsLaws.{fits-facts}
 abbrev pub refusedCall : List ℕ → Memory → Refusal → Called
 refusedCall w m r = called (r .number) w (answerOf (report 3 r 0 0)) m
 
-pub log-none : (m : Machine) → logBytes (logFrom decideOf m []) ≡ []
+pub log-none : (m : Machine) → logBytes (m .state .revision) (logFrom decideOf m []) ≡ []
 unfolding logFrom logBytes
 log-none m = refl
 
@@ -56,9 +56,9 @@ module _ (w a : List ℕ) (c : Code) (m : Memory) (h : fitsOf w a 7 ≡ false) w
   unfolding traceCall
   trace-misfit budget b = rw h
 
-pub open-misfit : (w a g : List ℕ) (n : ℕ) (c : Code) (m : Memory) → openFitsOf w a g ≡ false → openCall w a g n c m ≡ misfitted w a m
+pub open-misfit : (w a : List ℕ) (v : ℕ) (g : List ℕ) (n : ℕ) (c : Code) (m : Memory) → openFitsOf w a g ≡ false → openCall w a v g n c m ≡ misfitted w a m
 unfolding openCall
-open-misfit w a g n c m h = rw h
+open-misfit w a v g n c m h = rw h
 
 pub helper-misfit : (w v : List ℕ) (c : Code) (m : Memory) → fitsOf w v 6 ≡ false → helperCall w v c m ≡ helped 1 (noHelpers v)
 unfolding helperCall
@@ -102,14 +102,14 @@ module _ (w a : List ℕ) (c : Code) (m : Memory) (h : fitsOf w a 7 ≡ true) wh
   trace-refused budget b z =
       let k = trace-refuses decideOf budget (machine (stateOf w) c m) b z in
       rw h
-      (ap (λ (p : Path). traceGives b p (logBytes (logFrom decideOf (machine (stateOf w) c m) (p .machines)))) k
+      (ap (λ (p : Path). traceGives b p (logBytes (stateOf w .revision) (logFrom decideOf (machine (stateOf w) c m) (p .machines)))) k
       ∙ ap (traceGives b (stays (refused (plainly (traceA (machine (stateOf w) c m) b))) (machine (stateOf w) c m))) (log-none (machine (stateOf w) c m))
       ∙ (λ d. recorded (same (plainly (traceA (machine (stateOf w) c m) b)) d) (sym (logged-none b 0) d)))
 
-pub open-refused : (w a g : List ℕ) (n : ℕ) (c : Code) (m : Memory) → openFitsOf w a g ≡ true → (openA g c m n ≡ 0 → ⊥) →
-    openCall w a g n c m ≡ refusedCall w m (plainly (openA g c m n))
+pub open-refused : (w a : List ℕ) (v : ℕ) (g : List ℕ) (n : ℕ) (c : Code) (m : Memory) → openFitsOf w a g ≡ true → (openA v g c m n ≡ 0 → ⊥) →
+    openCall w a v g n c m ≡ refusedCall w m (plainly (openA v g c m n))
 unfolding openCall
-open-refused w a g n c m h z = rw h (ap (openGives w m) (open-refuses g c m n z))
+open-refused w a v g n c m h z = rw h (ap (openGives w m) (open-refuses v g c m n z))
 
 pub helper-refused : (w v : List ℕ) (c : Code) (m : Memory) → fitsOf w v 6 ≡ true → (machineA (machine (stateOf w) c m) ≡ 0 → ⊥) →
     helperCall w v c m ≡ helped (machineA (machine (stateOf w) c m)) (replicate 6 0)
@@ -117,10 +117,10 @@ unfolding helperCall
 helper-refused w v c m h z = rw h (helpers-refused (machine (stateOf w) c m) z)
 
 -- at any place: depth and cell count are 0, and the stack slice and the RAM slices stay
-pub replay-refused : (a log s : List ℕ) (j : ℕ) (c : Cells) → length a ≡ 3 → (replayOf log c s j .number ≡ 0 → ⊥) →
-    replayCall a log j c s ≡ replied (replayOf log c s j .number) (replayOf log c s j .number ∷ 0 ∷ 0 ∷ []) s (c .addresses) (c .values)
+pub replay-refused : (a log s : List ℕ) (v j : ℕ) (c : Cells) → length a ≡ 3 → (replayOf v log c s j .number ≡ 0 → ⊥) →
+    replayCall a log v j c s ≡ replied (replayOf v log c s j .number) (replayOf v log c s j .number ∷ 0 ∷ 0 ∷ []) s (c .addresses) (c .values)
 unfolding replayCall
-replay-refused a log s j c h z =
-    let u = R.replay-refused log c s j z in
-    let n = replayOf log c s j .number in
+replay-refused a log s v j c h z =
+    let u = R.replay-refused v log c s j z in
+    let n = replayOf v log c s j .number in
     rw (eq-eqb (length a) 3 h) (λ d. replied n (n ∷ u .depth d ∷ u .count d ∷ []) (u .words d) (u .addresses d) (u .values d))

@@ -1,9 +1,9 @@
 -- step over a register record, where the answer has seven words and where it has not; it is the step over words. Assumes nothing.
 use mathlib.Core.Path.{_≡_, refl, ap, _∙_}
 use mathlib.Core.Bool.{Bool, true, false}
-use mathlib.Core.List.{List}
+use mathlib.Core.List.{List, [], _∷_, _++_}
 use Prim.Native.Nat.{ℕ, _<_}
-use lib.ListN.{length}
+use lib.ListN.{length, length-append}
 use lib.Dec.{eqb, ltb}
 use borrow.Author.Tests.{eq-eqb, ne-eqb, lt-ltb}
 use Rattle.machine.specs.declared.state.VMState.{VMState}
@@ -58,10 +58,13 @@ small-mark : (t : Bool) → ltb (mark t) 2 ≡ true
 small-mark true = refl
 small-mark false = refl
 
+long-enough : (w : List ℕ) (x : ℕ) → length w ≡ 16 → length (w ++ (x ∷ [])) ≡ 17
+long-enough w x h = length-append w (x ∷ []) ∙ rw h
+
 -- the words of a record can be read
 readable : (r : Registers) → r .clock < 4294967296 → length (r .words) ≡ 16 → readableOf (registersOf (stateIn r)) ≡ true
 unfolding readableOf registersOf
-readable r small long = rw (long, lt-ltb (r .clock) 4294967296 small, small-mark (r .halted), small-mark (r .set))
+readable r small long = rw (long-enough (r .words) (r .revision) long, lt-ltb (r .clock) 4294967296 small, small-mark (r .halted), small-mark (r .set))
 
 either : (t : Bool) (r : Registers) (a : List ℕ) (m : Memory) (b : List ℕ) (x : Machine) (s : Outcomes) →
     cond t (stepGives x s) (recorded (called 1 (registersOf (stateIn r)) (cond t (answerOf misfit) a) m) b) ≡ wordsOf (cond t (thinGives r x s) (thinly 1 r a m b))
@@ -73,5 +76,5 @@ pub thin-words : (r : Registers) (a : List ℕ) (c : Code) (m : Memory) (b : Lis
     stepCall (registersOf (stateIn r)) a c m b ≡ wordsOf (thinCall r a c m b)
 unfolding stepCall thinCall fitsOf saidOf
 thin-words r a c m b small long =
-    rw (readable r small long, state-registers (stateIn r))
+    rw (readable r small long, state-registers (stateIn r) long)
     (either (eqb (length a) 7) r a m b (machine (stateIn r) c m) (stepOf (machine (stateIn r) c m) b))

@@ -126,16 +126,16 @@ module _ (w a : List ℕ) (c : Code) (m : Memory) where
     unchanged : (r : Refusal) → TraceTurned b (recorded (refusedCall w m r) b)
     -- the steps before are kept, and their records stand at the start of the log
     after-steps : (p : Path) (r : Refusal) → p .ending ≡ refused r → RefusedAfter decideOf (machine (stateOf w) c m) r p →
-        TraceTurned b (traceGives b p (logBytes (logFrom decideOf (machine (stateOf w) c m) (p .machines))))
+        TraceTurned b (traceGives b p (logBytes (stateOf w .revision) (logFrom decideOf (machine (stateOf w) c m) (p .machines))))
 
-  stays-turned : (b : List ℕ) (r : Refusal) → fitsOf w a 7 ≡ true → TraceTurned b (traceGives b (stays (refused r) from) (logBytes (logFrom decideOf from [])))
+  stays-turned : (b : List ℕ) (r : Refusal) → fitsOf w a 7 ≡ true → TraceTurned b (traceGives b (stays (refused r) from) (logBytes (stateOf w .revision) (logFrom decideOf from [])))
   stays-turned b r h =
       subst (TraceTurned b)
       (sym (ap (traceGives b (stays (refused r) from)) (log-none from) ∙ (λ d. recorded (same w a c m h r d) (sym (logged-none b 0) d))))
       (unchanged r)
 
-  trace-turned : (b : List ℕ) (p q : Path) (r : Refusal) → fitsOf w a 7 ≡ true → p ≡ q → p .ending ≡ refused r → M.RunRefused from r q → TraceTurned b (traceGives b p (logBytes (logFrom decideOf from (p .machines))))
-  trace-turned b p _ r h e i M.at-once = subst (λ (x : Path). TraceTurned b (traceGives b x (logBytes (logFrom decideOf from (x .machines))))) (sym e) (stays-turned b r h)
+  trace-turned : (b : List ℕ) (p q : Path) (r : Refusal) → fitsOf w a 7 ≡ true → p ≡ q → p .ending ≡ refused r → M.RunRefused from r q → TraceTurned b (traceGives b p (logBytes (stateOf w .revision) (logFrom decideOf from (p .machines))))
+  trace-turned b p _ r h e i M.at-once = subst (λ (x : Path). TraceTurned b (traceGives b x (logBytes (stateOf w .revision) (logFrom decideOf from (x .machines))))) (sym e) (stays-turned b r h)
   trace-turned b p q r h e i (M.after-steps l) = after-steps p r i (subst (RefusedAfter decideOf from r) (sym e) l)
 
   pub trace-whole : (budget : ℕ) (b : List ℕ) → (traceCall budget w a c m b .call .number ≡ 0 → ⊥) → TraceTurned b (traceCall budget w a c m b)
@@ -157,21 +157,21 @@ pub data OpenTurned (w a : List ℕ) (m : Memory) : Called → Type 0 where
   misfit-said : OpenTurned w a m (misfitted w a m)
   unchanged : (r : Refusal) → OpenTurned w a m (refusedCall w m r)
 
-open-fitted : (w a g : List ℕ) (n : ℕ) (c : Code) (m : Memory) → openFitsOf w a g ≡ true → openCall w a g n c m ≡ openGives w m (openOf g c m n)
+open-fitted : (w a : List ℕ) (v : ℕ) (g : List ℕ) (n : ℕ) (c : Code) (m : Memory) → openFitsOf w a g ≡ true → openCall w a v g n c m ≡ openGives w m (openOf v g c m n)
 unfolding openCall
-open-fitted w a g n c m h = rw h
+open-fitted w a v g n c m h = rw h
 
-pub open-whole : (w a g : List ℕ) (n : ℕ) (c : Code) (m : Memory) → (openCall w a g n c m .number ≡ 0 → ⊥) → OpenTurned w a m (openCall w a g n c m)
-open-whole w a g n c m z = go (openFitsOf w a g) refl
+pub open-whole : (w a : List ℕ) (v : ℕ) (g : List ℕ) (n : ℕ) (c : Code) (m : Memory) → (openCall w a v g n c m .number ≡ 0 → ⊥) → OpenTurned w a m (openCall w a v g n c m)
+open-whole w a v g n c m z = go (openFitsOf w a g) refl
   where
     by : (o : Outcome) → (openGives w m o .number ≡ 0 → ⊥) → OpenTurned w a m (openGives w m o)
     by (took x) k = absurd (k refl)
     by (kept r) k = unchanged r
     by (lost r x) k = unchanged r
 
-    go : (t : Bool) → openFitsOf w a g ≡ t → OpenTurned w a m (openCall w a g n c m)
-    go true h = let e = open-fitted w a g n c m h in subst (OpenTurned w a m) (sym e) (by (openOf g c m n) (λ y. z (ap (λ (x : Called). x .number) e ∙ y)))
-    go false h = subst (OpenTurned w a m) (sym (open-misfit w a g n c m h)) misfit-said
+    go : (t : Bool) → openFitsOf w a g ≡ t → OpenTurned w a m (openCall w a v g n c m)
+    go true h = let e = open-fitted w a v g n c m h in subst (OpenTurned w a m) (sym e) (by (openOf v g c m n) (λ y. z (ap (λ (x : Called). x .number) e ∙ y)))
+    go false h = subst (OpenTurned w a m) (sym (open-misfit w a v g n c m h)) misfit-said
 
 helper-fitted : (w v : List ℕ) (c : Code) (m : Memory) → fitsOf w v 6 ≡ true → helperCall w v c m ≡ helperVariablesOf (machine (stateOf w) c m)
 unfolding helperCall
@@ -203,13 +203,13 @@ pub data ReplayTurned (a s : List ℕ) (c : Cells) : Replied → Type 0 where
   misfit-stays : ReplayTurned a s c (replied 1 a s (c .addresses) (c .values))
   unchanged : {n : ℕ} → ReplayTurned a s c (replied n (n ∷ 0 ∷ 0 ∷ []) s (c .addresses) (c .values))
 
-replay-number : (a log s : List ℕ) (j : ℕ) (c : Cells) → eqb (length a) 3 ≡ true → replayCall a log j c s .number ≡ replayOf log c s j .number
+replay-number : (a log s : List ℕ) (v j : ℕ) (c : Cells) → eqb (length a) 3 ≡ true → replayCall a log v j c s .number ≡ replayOf v log c s j .number
 unfolding replayCall
-replay-number a log s j c h = rw h
+replay-number a log s v j c h = rw h
 
-pub replay-whole : (a log s : List ℕ) (j : ℕ) (c : Cells) → (replayCall a log j c s .number ≡ 0 → ⊥) → ReplayTurned a s c (replayCall a log j c s)
-replay-whole a log s j c z = go (eqb (length a) 3) refl
+pub replay-whole : (a log s : List ℕ) (v j : ℕ) (c : Cells) → (replayCall a log v j c s .number ≡ 0 → ⊥) → ReplayTurned a s c (replayCall a log v j c s)
+replay-whole a log s v j c z = go (eqb (length a) 3) refl
   where
-    go : (t : Bool) → eqb (length a) 3 ≡ t → ReplayTurned a s c (replayCall a log j c s)
-    go true h = subst (ReplayTurned a s c) (sym (replay-refused a log s j c (eqb-true (length a) 3 h) (λ y. z (replay-number a log s j c h ∙ y)))) unchanged
-    go false h = subst (ReplayTurned a s c) (replay-misfits a log s j c (eqb-false (length a) 3 h)) misfit-stays
+    go : (t : Bool) → eqb (length a) 3 ≡ t → ReplayTurned a s c (replayCall a log v j c s)
+    go true h = subst (ReplayTurned a s c) (sym (replay-refused a log s v j c (eqb-true (length a) 3 h) (λ y. z (replay-number a log s v j c h ∙ y)))) unchanged
+    go false h = subst (ReplayTurned a s c) (replay-misfits a log s v j c (eqb-false (length a) 3 h)) misfit-stays

@@ -1,4 +1,4 @@
--- open over numbers and slices: the machine's openOf, of a program digest and so many RAM cells used.
+-- open over numbers and slices: the machine's openOf, of a revision of the log, a program digest and so many RAM cells used.
 use mathlib.Core.Bool.{Bool, false}
 use mathlib.Core.List.{List}
 use Prim.Native.Nat.{ℕ}
@@ -17,7 +17,7 @@ use Rattle.exports_words.specs.Calls.{Called, called, misfitted, reported}
 
 -- the words that the registers w hold do not matter: they are not read
 unfoldable pub openFitsOf : List ℕ → List ℕ → List ℕ → Bool
-openFitsOf w a digest = cond (eqb (length w) 27) (cond (eqb (length a) 7) (eqb (length digest) 5) false) false
+openFitsOf w a digest = cond (eqb (length w) 28) (cond (eqb (length a) 7) (eqb (length digest) 5) false) false
 
 -- refused: the registers keep their words, and nothing lent is changed
 abbrev pub unopened : List ℕ → Memory → Refusal → Called
@@ -29,8 +29,8 @@ openGives w m (took x) = reported (openReport did) (x .state) (x .memory)
 openGives w m (kept r) = unopened w m r
 openGives w m (lost r x) = unopened w m r
 
-unfoldable pub openCall : List ℕ → List ℕ → List ℕ → ℕ → Code → Memory → Called
-openCall w a digest n c m = cond (openFitsOf w a digest) (openGives w m (openOf digest c m n)) (misfitted w a m)
+unfoldable pub openCall : List ℕ → List ℕ → ℕ → List ℕ → ℕ → Code → Memory → Called
+openCall w a v digest n c m = cond (openFitsOf w a digest) (openGives w m (openOf v digest c m n)) (misfitted w a m)
 
 -- the registers where open gives this number and this state
 unfoldable pub openedRegisters : ℕ → VMState → List ℕ → List ℕ

@@ -22,6 +22,6 @@ replied n a s addresses values = record { number = n; answer = a; words = s; add
 abbrev pub replayGives : Replayed → Replied
 replayGives r = replied (r .number) (r .number ∷ r .depth ∷ r .count ∷ []) (r .words) (r .addresses) (r .values)
 
--- an answer a of another length gives 1, and nothing lent is changed
-unfoldable pub replayCall : List ℕ → List ℕ → ℕ → Cells → List ℕ → Replied
-replayCall a log j c s = cond (eqb (length a) 3) (replayGives (replayOf log c s j)) (replied 1 a s (c .addresses) (c .values))
+-- a log of revision v up to clock j; an answer a of another length gives 1, and nothing lent is changed
+unfoldable pub replayCall : List ℕ → List ℕ → ℕ → ℕ → Cells → List ℕ → Replied
+replayCall a log v j c s = cond (eqb (length a) 3) (replayGives (replayOf v log c s j)) (replied 1 a s (c .addresses) (c .values))

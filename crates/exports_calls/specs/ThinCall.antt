@@ -28,6 +28,7 @@ stateIn r =
       digests = r .digests;
       sponge = record { words = r .words; set = r .set };
       halted = r .halted;
+      revision = r .revision;
     }
 
 -- the state's registers in the place of the record r, whose reserved fields stay
@@ -49,6 +50,7 @@ registersIn r s =
       reserved2 = r .reserved2;
       reserved4 = r .reserved4;
       words = s .sponge .words;
+      revision = s .revision;
     }
 
 -- ---- the call

@@ -16,7 +16,7 @@ use tip5::words::copy;
 fn open_fits(registers: &[u64], answer: &[u64], digest: &[u64]) -> bool
     ensures { λ r. ⌜ r ≡ openFitsOf (now (registers .entry)) (now (answer .entry)) (now (digest .entry)) ⌝ }
 {
-    if registers.len() == 27 {
+    if registers.len() == 28 {
         if answer.len() == 7 {
             digest.len() == 5
         } else {
@@ -38,7 +38,7 @@ fn read_digest(digest: &[u64]) -> [u64; 5]
 
 // The registers of a job that is opened; where the number is not 0, the words stay.
 fn write_opened(registers: &mut [u64], number: u64, state: VMState)
-    requires { ⌜ length (now registers) ≡ 27 ⌝ }
+    requires { ⌜ length (now registers) ≡ 28 ⌝ }
     ensures { λ _. ⌜ now (registers .exit) ≡ openedRegisters number state (now (registers .entry)) ⌝ }
 {
     if number == 0 {
@@ -50,6 +50,7 @@ fn write_opened(registers: &mut [u64], number: u64, state: VMState)
 pub fn open_call(
     registers: &mut [u64],
     answer: &mut [u64],
+    revision: u64,
     digest: &[u64],
     cells: u64,
     opcodes: &[u64],
@@ -66,13 +67,14 @@ pub fn open_call(
 ) -> u64
     ensures { λ r. ⌜ called r (now (registers .exit)) (now (answer .exit))
         (memoryOut «op_stack» origins destinations addresses values output)
-        ≡ openCall (now (registers .entry)) (now (answer .entry)) (now (digest .entry)) cells
+        ≡ openCall (now (registers .entry)) (now (answer .entry)) revision (now (digest .entry)) cells
         (codeIn opcodes arguments public secret digests)
         (memoryIn «op_stack» origins destinations addresses values output) ⌝ }
 {
     if open_fits(registers, answer, digest) {
         let words = read_digest(digest);
         let r = open(
+            revision,
             words,
             cells as usize,
             opcodes,

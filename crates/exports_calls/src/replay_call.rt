@@ -20,6 +20,7 @@ fn write_rebuilt(rebuilt: &mut [u64], r: Answer)
 pub fn replay_call(
     rebuilt: &mut [u64],
     log: &[u8],
+    revision: u64,
     clock: u64,
     cells: u64,
     addresses: &mut [u64],
@@ -27,12 +28,20 @@ pub fn replay_call(
     words: &mut [u64],
 ) -> u64
     ensures { λ r. ⌜ replied r (now (rebuilt .exit)) (now (words .exit)) (now (addresses .exit)) (now (values .exit))
-        ≡ replayCall (now (rebuilt .entry)) (now (log .entry)) clock (cellsOf cells (now (addresses .entry)) (now (values .entry))) (now (words .entry)) ⌝ }
+        ≡ replayCall (now (rebuilt .entry)) (now (log .entry)) revision clock (cellsOf cells (now (addresses .entry)) (now (values .entry))) (now (words .entry)) ⌝ }
 {
     if rebuilt.len() != 3 {
         return 1;
     }
-    let r = replay(log, addresses, values, cells as usize, words, clock);
+    let r = replay(
+        log,
+        revision,
+        addresses,
+        values,
+        cells as usize,
+        words,
+        clock,
+    );
     write_rebuilt(rebuilt, r);
     r.number
 }

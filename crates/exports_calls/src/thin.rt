@@ -8,7 +8,7 @@ use machine::state::VMState;
 use machine_vm::step::step;
 use tip5::sponge::Sponge;
 
-// The registers as C lays them out: 208 bytes, each of them a field's. The three reserved fields stay as they are; without them the
+// The registers as C lays them out: 216 bytes, each of them a field's. The three reserved fields stay as they are; without them the
 // compiler would fill their bytes with what stood on the stack, since the record is stored whole.
 #[repr(C)]
 pub struct Registers {
@@ -28,6 +28,7 @@ pub struct Registers {
     pub reserved2: u16,
     pub reserved4: u32,
     pub words: [u64; 16],
+    pub revision: u64,
 }
 
 // The number that the call gives, and the registers behind it.
@@ -56,6 +57,7 @@ fn state_in(r: Registers) -> VMState
         digests: r.digests,
         sponge: sponge,
         halted: r.halted,
+        revision: r.revision,
     }
 }
 
@@ -81,6 +83,7 @@ fn registers_in(r: Registers, s: VMState) -> Registers
         reserved2: r.reserved2,
         reserved4: r.reserved4,
         words: words,
+        revision: s.revision,
     }
 }
 

@@ -11,6 +11,10 @@ use Rattle.exports_words.specs.declared.report.Report.{Report}
 use Rattle.exports_words.specs.Registers.{registersOf, readableOf}
 use Rattle.exports_words.specs.Report.{misfit, answerOf, saidOf}
 
+-- the number of the interface: it is raised where a call gets other parameters, or a word another meaning
+abbrev pub interfaceVersion : ℕ
+interfaceVersion = 1
+
 -- the number that a call gives, and its slices behind it
 pub record Called : Type 0 where
   pub number : ℕ

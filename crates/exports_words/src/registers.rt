@@ -1,4 +1,4 @@
-// The registers as a slice of 27 words.
+// The registers as a slice of 28 words.
 ghost use mathlib.Core.Path.{_≡_};
 ghost use lib.ListN.{length};
 ghost use Rattle.exports_words.specs.Registers.{mark, registersOf, stateOf, Readable, readableOf};
@@ -6,11 +6,11 @@ use machine::state::VMState;
 use tip5::sponge::Sponge;
 use tip5::words::copy;
 
-// 27 words, a clock of 32 bits, and marks that are 0 or 1.
+// 28 words, a clock of 32 bits, and marks that are 0 or 1. The revision may be any word: place A tries it.
 pub fn readable(registers: &[u64]) -> bool
     ensures { λ r. ⌜ r ≡ readableOf (now (registers .entry)) ⌝ }
 {
-    if registers.len() == 27 {
+    if registers.len() == 28 {
         if registers[0] < 4294967296 {
             if registers[9] < 2 {
                 registers[10] < 2
@@ -47,6 +47,7 @@ pub fn read_registers(registers: &[u64]) -> VMState
         digests: registers[8] as usize,
         sponge: sponge,
         halted: registers[9] == 1,
+        revision: registers[27],
     }
 }
 
@@ -58,7 +59,7 @@ fn marked(t: bool) -> u64
 }
 
 pub fn write_registers(registers: &mut [u64], state: VMState)
-    requires { ⌜ length (now registers) ≡ 27 ⌝ }
+    requires { ⌜ length (now registers) ≡ 28 ⌝ }
     ensures { λ _. ⌜ now (registers .exit) ≡ registersOf state ⌝ }
 {
     let sponge = state.sponge;
@@ -76,6 +77,8 @@ pub fn write_registers(registers: &mut [u64], state: VMState)
         marked(state.halted),
         marked(sponge.set),
     ];
+    let last = [state.revision];
     copy(&mut registers[..], 0, &head, 11);
     copy(&mut registers[..], 11, &words, 16);
+    copy(&mut registers[..], 27, &last, 1);
 }

@@ -14,7 +14,7 @@ use Rattle.machine.specs.Hashing.{fromTop, reversed}
 use Rattle.machine.specs.Arithmetic.{addOf}
 use Rattle.machine.specs.Decide.{effectOf, decideOf}
 use Rattle.machine.specs.Apply.{appliedStack, touched, performed, limitsOf, settled}
-use Rattle.machine.specs.PlaceA.{code1, memory1, code2, opcodes3, arguments4, code34, openA}
+use Rattle.machine.specs.PlaceA.{revision4, code1, memory1, code2, opcodes3, arguments4, code34, openA}
 use Rattle.machine.specs.Open.{openedStack, opened, openOf}
 use Rattle.machine.specs.Step.{outcomeBy}
 use Rattle.machine.specs.Path.{pathBy, logFrom}
@@ -47,7 +47,7 @@ unfolding exampleJob exampleFile fileRecord lengthIn pieceKind pieceSize pieceIn
 example-job = refl
 
 example-lines : jobLines exampleJob ≡ exampleText
-unfolding exampleJob exampleText jobLines runLines pathLines endLine outLines lineOf linesOf digitsOf decimalOf fieldOf directionText stackLine outLine countsOf haltedLine logged callRecords growing shrinking stackRecords recordsOf outcomeBy pathBy logFrom openedStack opened openOf code1 memory1 code2 opcodes3 arguments4 code34 openA appliedStack touched performed limitsOf settled effectOf decideOf addOf fromTop reversed writeIoOf haltOf pushOf topOf table decode sizeOf placeFrom placeOf standsAt find held cells1 cells2 cells5 fallOf fallsOf wordOf2 wordsOf zerosFrom firstOf aboveOf differOf
+unfolding exampleJob exampleText jobLines runLines pathLines endLine outLines lineOf linesOf digitsOf decimalOf fieldOf directionText stackLine outLine countsOf haltedLine logged callRecords growing shrinking stackRecords recordsOf outcomeBy pathBy logFrom openedStack opened openOf code1 memory1 code2 opcodes3 arguments4 code34 revision4 openA appliedStack touched performed limitsOf settled effectOf decideOf addOf fromTop reversed writeIoOf haltOf pushOf topOf table decode sizeOf placeFrom placeOf standsAt find held cells1 cells2 cells5 fallOf fallsOf wordOf2 wordsOf zerosFrom firstOf aboveOf differOf
 example-lines = refl
 
 -- document 01's example, from its bytes to what is printed
@@ -64,7 +64,7 @@ twenty-digits = refl
 
 -- a file of a digest alone opens an empty program: "end refused 11 0 0 16"
 pub digest-alone : printedOf digestRecord ≡ 101 ∷ 110 ∷ 100 ∷ 32 ∷ 114 ∷ 101 ∷ 102 ∷ 117 ∷ 115 ∷ 101 ∷ 100 ∷ 32 ∷ 49 ∷ 49 ∷ 32 ∷ 48 ∷ 32 ∷ 48 ∷ 32 ∷ 49 ∷ 54 ∷ 10 ∷ []
-unfolding refusedLine jobLines runLines pathLines endLine outLines lineOf linesOf digitsOf decimalOf fieldOf directionText stackLine outLine countsOf haltedLine logged callRecords growing shrinking stackRecords recordsOf outcomeBy pathBy logFrom openedStack opened openOf code1 memory1 code2 opcodes3 arguments4 code34 openA appliedStack touched performed limitsOf settled effectOf decideOf addOf fromTop reversed writeIoOf haltOf pushOf topOf table decode sizeOf placeFrom placeOf standsAt find held cells1 cells2 cells5 fallOf fallsOf wordOf2 wordsOf zerosFrom firstOf aboveOf differOf fileRecord lengthIn pieceKind pieceSize pieceIn piecesIn piecesOf countOf numbersIn column faultOf jobOf kindIn wholeBy sizeBy bytesOf numberOf
+unfolding refusedLine jobLines runLines pathLines endLine outLines lineOf linesOf digitsOf decimalOf fieldOf directionText stackLine outLine countsOf haltedLine logged callRecords growing shrinking stackRecords recordsOf outcomeBy pathBy logFrom openedStack opened openOf code1 memory1 code2 opcodes3 arguments4 code34 revision4 openA appliedStack touched performed limitsOf settled effectOf decideOf addOf fromTop reversed writeIoOf haltOf pushOf topOf table decode sizeOf placeFrom placeOf standsAt find held cells1 cells2 cells5 fallOf fallsOf wordOf2 wordsOf zerosFrom firstOf aboveOf differOf fileRecord lengthIn pieceKind pieceSize pieceIn piecesIn piecesOf countOf numbersIn column faultOf jobOf kindIn wholeBy sizeBy bytesOf numberOf
 digest-alone = refl
 
 -- an empty file is broken: "end refused 50 0 0 0"

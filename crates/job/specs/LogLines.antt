@@ -1,13 +1,14 @@
--- The stack lines of a log.
+-- The stack lines of a log, which is of revision 1: runjob opens its jobs so.
 use mathlib.Core.List.{List, [], _∷_, _++_}
 use Prim.Native.Nat.{ℕ, zero, suc}
 use lib.ListN.{length}
-use Rattle.machine.specs.Records.{Record, other, stack, ram, Parsed, ended, broken, found, parse}
+use Rattle.machine.specs.Records.{Record, other, timed, stack, ram, Parsed, ended, broken, found, parse}
 use Rattle.job.specs.Listing.{stackLine}
 
 -- the records of the op stack give a line each, the others none
 unfoldable pub lineOf : Record → List ℕ
 lineOf (other k b) = []
+lineOf (timed k t b) = []
 lineOf (stack t q d v) = stackLine t q d v
 lineOf (ram t a v d) = []
 
@@ -24,7 +25,7 @@ onRecord k (found r t) = k r t
 -- over bytes, up to the first place where no whole record stands; as many records at most as bytes
 unfoldable pub linesIn : ℕ → List ℕ → List ℕ
 linesIn zero b = []
-linesIn (suc f) b = onRecord (λ r t. lineOf r ++ linesIn f t) (parse b)
+linesIn (suc f) b = onRecord (λ r t. lineOf r ++ linesIn f t) (parse 1 b)
 
 unfoldable pub logLines : List ℕ → List ℕ
 logLines b = linesIn (length b) b

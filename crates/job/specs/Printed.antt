@@ -61,7 +61,7 @@ onOpened budget (lost r x) = notOpened (r .number)
 unfoldable pub jobLines : Job → List ℕ
 jobLines j =
     cond (eqb (j .number) 0)
-    (onOpened (j .budget) (openOf (j .digest) (codeOf j) (memoryOf j) (length (j .addresses))))
+    (onOpened (j .budget) (openOf 1 (j .digest) (codeOf j) (memoryOf j) (length (j .addresses))))
     (notOpened (j .number))
 
 abbrev pub printedOf : List ℕ → List ℕ

@@ -11,8 +11,9 @@ use crate::frame::number_at;
 use crate::frame::whole_at;
 use crate::listing::stack_line;
 
+// In a log of revision 1.
 fn length_of(kind: u64) -> usize
-    ensures { λ r. ⌜ (r ≡ lengthOf kind) × (r < 65536) ⌝ }
+    ensures { λ r. ⌜ (r ≡ lengthOf 1 kind) × (r < 65536) ⌝ }
 {
     match kind {
         1 => 2,
@@ -27,7 +28,7 @@ fn length_of(kind: u64) -> usize
 // How many bytes the record at place `at` has; 0 where no whole one stands.
 pub fn record_length(log: &[u8], at: usize) -> usize
     requires { ⌜ at ≤ length (now log) ⌝ }
-    ensures { λ r. ⌜ r ≡ sizeBy lengthOf (drop at (now (log .entry))) ⌝ }
+    ensures { λ r. ⌜ r ≡ sizeBy (lengthOf 1) (drop at (now (log .entry))) ⌝ }
 {
     if log.len() - at < 4 {
         return 0;
@@ -48,7 +49,7 @@ pub fn stack_line_at(log: &[u8], at: usize, out: &mut [u8], to: usize) -> usize
 
 // The line of the record of n bytes at place `at`, if its kind has one.
 fn line_at(log: &[u8], at: usize, n: usize, out: &mut [u8], to: usize) -> usize
-    requires { ⌜ (at ≤ length (now log)) × (0 < n) × (n ≡ sizeBy lengthOf (drop at (now log))) × (to + 3 * n ≤ length (now out)) ⌝ }
+    requires { ⌜ (at ≤ length (now log)) × (0 < n) × (n ≡ sizeBy (lengthOf 1) (drop at (now log))) × (to + 3 * n ≤ length (now out)) ⌝ }
     ensures { λ r. ⌜ Put (now (out .entry)) (now (out .exit)) to
         (lineOf (recordOf (kindIn (drop at (now (log .entry)))) (take n (drop at (now (log .entry)))))) (3 * n) r ⌝ }
 {

@@ -7,6 +7,7 @@ use native.Mathlib.Omega.{arith}
 use lib.ListN.{length}
 use Rattle.field.specs.Base.{p}
 use Rattle.machine.specs.Words.{Words}
+use Rattle.machine.specs.Lengths.{clockBytes}
 use Rattle.machine.specs.Instruction.{sizeOf}
 use Rattle.machine.specs.Machine.{Machine, ram}
 use Rattle.machine.specs.Effect.{Call, reset, tip5, u32, ramRead, ramWrite, Effect, onward, stays, SpongeChange, keeps}
@@ -37,12 +38,12 @@ abbrev pub weighed : Weights → List Call → ℕ
 weighed per [] = 0
 weighed per (c ∷ cs) = weight per c + weighed per cs
 
--- the bytes of a record of each kind, and of the calls' records
-abbrev pub perByte : Weights
-perByte = weights 4 774 22 25 25
+-- the bytes of a record of each kind in a log of revision v, and of the calls' records
+abbrev pub perByte : ℕ → Weights
+perByte v = weights 4 (774 + clockBytes v) (22 + clockBytes v) 25 25
 
-abbrev pub callSizes : List Call → ℕ
-callSizes cs = weighed perByte cs
+abbrev pub callSizes : ℕ → List Call → ℕ
+callSizes v cs = weighed (perByte v) cs
 
 -- n accesses to RAM
 abbrev pub accessSizes : Weights → ℕ → ℕ

@@ -17,7 +17,7 @@ use Rattle.machine.specs.Step.{recordsIn, outcomeBy}
 use Rattle.machine.specs.Path.{Ending, halted, spent, full, refused, Path, path, count, stays, onward, Space, unlogged, tooLittle, behind, stepLog, pathBy, logFrom}
 use Rattle.machine.specs.Sound.{Sound, Facts}
 use Rattle.machine.proofs.Preserved.{dropped-sound}
-use Rattle.machine.proofs.Step.{step-sound, step-lost}
+use Rattle.machine.proofs.Step.{step-sound, step-lost, step-revision, lost-revision}
 
 -- ---- paths one behind the other
 
@@ -80,7 +80,7 @@ module _ (decide : Machine → Decision) where
   pub data Goes : Space → ℕ → Machine → Path → Type 0 where
     at-halt : {s : Space} {n : ℕ} {m : Machine} → m .state .halted ≡ true → Goes s n m (stays halted m)
     at-budget : {s : Space} {m : Machine} → m .state .halted ≡ false → Goes s 0 m (stays spent m)
-    at-full : {s : Space} {n : ℕ} {m : Machine} → m .state .halted ≡ false → tooLittle s ≡ true → Goes s (suc n) m (stays full m)
+    at-full : {s : Space} {n : ℕ} {m : Machine} → m .state .halted ≡ false → tooLittle (m .state .revision) s ≡ true → Goes s (suc n) m (stays full m)
     at-refusal : {s : Space} {n : ℕ} {m : Machine} {r : Refusal} → m .state .halted ≡ false → outcomeBy decide m ≡ kept r → Goes s (suc n) m (stays (refused r) m)
     at-drop : {s : Space} {n : ℕ} {m x : Machine} {r : Refusal} → m .state .halted ≡ false → outcomeBy decide m ≡ lost r x → Goes s (suc n) m (path [] x true (refused r))
     by-step : {s : Space} {n : ℕ} {m x : Machine} {p : Path} → m .state .halted ≡ false → outcomeBy decide m ≡ took x → Goes (behind s (stepLog decide m)) n x p → Goes s (suc n) m (after x p)
@@ -99,9 +99,9 @@ module _ (decide : Machine → Decision) where
       go : (t : Bool) → m .state .halted ≡ t → Goes s 0 m (stays (cond t halted spent) m)
       go true h = at-halt h
       go false h = at-budget h
-  goes s (suc n) m = go (m .state .halted) (tooLittle s) refl refl (λ x. goes (behind s (stepLog decide m)) n x)
+  goes s (suc n) m = go (m .state .halted) (tooLittle (m .state .revision) s) refl refl (λ x. goes (behind s (stepLog decide m)) n x)
     where
-      go : (t u : Bool) → m .state .halted ≡ t → tooLittle s ≡ u → ((x : Machine) → Goes (behind s (stepLog decide m)) n x (pathBy decide (behind s (stepLog decide m)) n x)) →
+      go : (t u : Bool) → m .state .halted ≡ t → tooLittle (m .state .revision) s ≡ u → ((x : Machine) → Goes (behind s (stepLog decide m)) n x (pathBy decide (behind s (stepLog decide m)) n x)) →
           Goes s (suc n) m (cond t (stays halted m) (cond u (stays full m) (onward m (λ x. pathBy decide (behind s (stepLog decide m)) n x) (outcomeBy decide m))))
       go true u h l ih = at-halt h
       go false true h l ih = at-full h l
@@ -118,11 +118,11 @@ module _ (decide : Machine → Decision) where
   unfolding pathBy
   path-spent s m h = rw h
 
-  pub path-full : (s : Space) (n : ℕ) (m : Machine) → m .state .halted ≡ false → tooLittle s ≡ true → pathBy decide s (suc n) m ≡ stays full m
+  pub path-full : (s : Space) (n : ℕ) (m : Machine) → m .state .halted ≡ false → tooLittle (m .state .revision) s ≡ true → pathBy decide s (suc n) m ≡ stays full m
   unfolding pathBy
   path-full s n m h l = rw (h, l)
 
-  pub path-on : (s : Space) (n : ℕ) (m : Machine) (o : Outcome) → m .state .halted ≡ false → tooLittle s ≡ false → outcomeBy decide m ≡ o →
+  pub path-on : (s : Space) (n : ℕ) (m : Machine) (o : Outcome) → m .state .halted ≡ false → tooLittle (m .state .revision) s ≡ false → outcomeBy decide m ≡ o →
       pathBy decide s (suc n) m ≡ onward m (λ x. pathBy decide (behind s (stepLog decide m)) n x) o
   unfolding pathBy
   path-on s n m o h l e = (rw (h, l)) ∙ ap (onward m (λ x. pathBy decide (behind s (stepLog decide m)) n x)) e
@@ -268,6 +268,20 @@ module _ (decide : Machine → Decision) where
   path-refused {m = m} (by-step {x = x} {p = p} h e g) w q =
       let k = path-refused g w q in
       record { before = k .before; steps = path-on unlogged (count p) m (took x) h refl e ∙ ap (after x) (k .steps); leaves = k .leaves }
+
+  -- ---- the log's revision stays
+
+  pub path-revision : {s : Space} {n : ℕ} {m : Machine} {p : Path} → Goes s n m p → p .left .state .revision ≡ m .state .revision
+  path-revision (at-halt h) = refl
+  path-revision (at-budget h) = refl
+  path-revision (at-full h l) = refl
+  path-revision (at-refusal h e) = refl
+  path-revision {m = m} (at-drop {x = x} {r = r} h e) = lost-revision decide m r x e
+  path-revision {m = m} (by-step {x = x} h e g) = path-revision g ∙ step-revision decide m x e
+
+  pub chain-revision : {m : Machine} {ms : List Machine} → Chain m ms → lastOf m ms .state .revision ≡ m .state .revision
+  chain-revision chain-none = refl
+  chain-revision {m} (chain-more {x = x} e c) = chain-revision c ∙ step-revision decide m x e
 
   -- ---- sound machines
 

@@ -175,6 +175,7 @@ machine-sound m sixteen clock h =
     let one = first-nil _ _ (a .0) in
     let b = first-nil _ _ (a .1) in
     let c = first-nil _ _ (b .1) in
+    let d = first-nil _ _ (c .1) in
     let l = memory-lengths (m .memory) (one .1) in
     let t = first-nil _ _ (b .0) in
     let t2 = first-nil _ _ (t .1) in
@@ -182,7 +183,7 @@ machine-sound m sixteen clock h =
     let t4 = first-nil _ _ (t3 .1) in
     let t5 = first-nil _ _ (t4 .1) in
     let t6 = first-nil _ _ (t5 .1) in
-    let f = first-nil _ _ (c .1) in
+    let f = first-nil _ _ (d .1) in
     let f2 = first-nil _ _ (f .1) in
     let f3 = first-nil _ _ (f2 .1) in
     let f4 = first-nil _ _ (f3 .1) in
@@ -212,6 +213,7 @@ machine-sound m sixteen clock h =
       sponge = record { sixteen = sixteen; words = words-whole (m .state .sponge .words) (rw sixteen (t6 .0)) };
       pointer = word-nil (m .state .pointer) (t6 .1);
       clock = clock;
+      revision = d .0;
     }
 
 memory1-fine : (m : Machine) → Sound m → memory1 (m .memory) ≡ 0
@@ -258,6 +260,7 @@ machine-accepted m s =
     first-zero _ _ (first-zero _ _ (code1-fine (m .code) (s .code)) ∙ memory1-fine m s)
     ∙ first-zero _ _ (machine2-fine m s)
     ∙ first-zero _ _ (code34-fine (m .code) (s .code))
+    ∙ first-zero _ _ (s .revision)
     ∙ machine5-fine m s
 
 -- ---- open
@@ -292,15 +295,16 @@ stack-opened g s l k h =
     w : (i : ℕ) → i < 5 → getD g i 0 < p
     w i q = words-at g 5 i q h
 
-pub opened-sound : (g : List ℕ) (c : Code) (m : Memory) (n : ℕ) → openA g c m n ≡ 0 → Sound (opened g c m n)
+pub opened-sound : (v : ℕ) (g : List ℕ) (c : Code) (m : Memory) (n : ℕ) → openA v g c m n ≡ 0 → Sound (opened v g c m n)
 unfolding openA opened cells1
-opened-sound g c m n h =
+opened-sound v g c m n h =
     let a = first-nil _ _ h in
     let one = first-nil _ _ (a .0) in
     let b = first-nil _ _ (a .1) in
     let t = first-nil _ _ (b .0) in
     let t2 = first-nil _ _ (t .1) in
     let f = first-nil _ _ (b .1) in
+    let f2 = first-nil _ _ (f .1) in
     let l = memory-lengths m (one .1) in
     record {
       code = code-sound c (one .0) (t .0) (f .0);
@@ -309,7 +313,7 @@ opened-sound g c m n h =
       origins = zeros-sound (length (m .origins)) (l .originsFew);
       destinations = zeros-sound (length (m .destinations)) (l .destinationsFew);
       paired = ap (λ (k : ℕ). length {A = ℕ} (replicate k 0)) (l .paired);
-      cells = cells-sound (cells n (m .addresses) (m .values)) (l .ones) (t2 .1) (f .1);
+      cells = cells-sound (cells n (m .addresses) (m .values)) (l .ones) (t2 .1) (f2 .1);
       outputFew = l .outputFew;
       outputs = omega arith;
       publics = omega arith;
@@ -318,29 +322,31 @@ opened-sound g c m n h =
       sponge = record { sixteen = refl; words = words-zeros 16 };
       pointer = lit< tt;
       clock = lit< tt;
+      revision = f2 .0;
     }
 
--- what a successful open gives
-pub record Opened (m : Machine) : Type 0 where
+-- what a successful open gives, with a log of revision v
+pub record Opened (v : ℕ) (m : Machine) : Type 0 where
   pub sound : Sound m
   pub clock : m .state .clock ≡ 0
   pub depth : m .state .depth ≡ 16
+  pub revision : m .state .revision ≡ v
 
-open-took : (g : List ℕ) (c : Code) (m : Memory) (n : ℕ) (x : Machine) → openOf g c m n ≡ took x → (openA g c m n ≡ 0) × (opened g c m n ≡ x)
-open-took g c m n x e = go (eqb (openA g c m n) 0) refl
+open-took : (v : ℕ) (g : List ℕ) (c : Code) (m : Memory) (n : ℕ) (x : Machine) → openOf v g c m n ≡ took x → (openA v g c m n ≡ 0) × (opened v g c m n ≡ x)
+open-took v g c m n x e = go (eqb (openA v g c m n) 0) refl
   where
-    go : (t : Bool) → eqb (openA g c m n) 0 ≡ t → (openA g c m n ≡ 0) × (opened g c m n ≡ x)
+    go : (t : Bool) → eqb (openA v g c m n) 0 ≡ t → (openA v g c m n ≡ 0) × (opened v g c m n ≡ x)
     go true q =
-        let z = eqb-true (openA g c m n) 0 q in
-        let k : took (opened g c m n) ≡ took x = sym (open-accepts g c m n z) ∙ e in
+        let z = eqb-true (openA v g c m n) 0 q in
+        let k : took (opened v g c m n) ≡ took x = sym (open-accepts v g c m n z) ∙ e in
         (z, cc)
     go false q =
-        let k : kept (plainly (openA g c m n)) ≡ took x = sym (open-refuses g c m n (eqb-false (openA g c m n) 0 q)) ∙ e in
+        let k : kept (plainly (openA v g c m n)) ≡ took x = sym (open-refuses v g c m n (eqb-false (openA v g c m n) 0 q)) ∙ e in
         let z : _≡_ {A = ℕ} 0 1 = cc in
         absurd (omega arith)
 
-pub open-sound : (g : List ℕ) (c : Code) (m : Memory) (n : ℕ) (x : Machine) → openOf g c m n ≡ took x → Opened x
+pub open-sound : (v : ℕ) (g : List ℕ) (c : Code) (m : Memory) (n : ℕ) (x : Machine) → openOf v g c m n ≡ took x → Opened v x
 unfolding opened
-open-sound g c m n x e =
-    let k = open-took g c m n x e in
-    rw (← k .1) (record { sound = opened-sound g c m n (k .0); clock = refl; depth = refl })
+open-sound v g c m n x e =
+    let k = open-took v g c m n x e in
+    rw (← k .1) (record { sound = opened-sound v g c m n (k .0); clock = refl; depth = refl; revision = refl })

@@ -12,7 +12,7 @@ use lib.Dec.{eqb, ltb, lit<}
 use Rattle.field.specs.Base.{p}
 use Rattle.machine.specs.Machine.{Machine}
 use Rattle.machine.specs.Effect.{Effect, JumpChange, stays, pushes, pops}
-use Rattle.machine.specs.Apply.{put, depthAfter, jumpsAfter, originsAfter, destinationsAfter, ramAfter, performed, dropped, limitsOf}
+use Rattle.machine.specs.Apply.{depthAfter, jumpsAfter, originsAfter, destinationsAfter, ramAfter, performed, dropped, limitsOf}
 use Rattle.machine.specs.Sound.{SoundStack, Sound, HonestJump, staying, popping, pushing, Facts}
 use Rattle.choices.proofs.Choice.{first-nil, above-nil}
 use Rattle.machine.proofs.Words.{words-set}
@@ -128,6 +128,7 @@ performed-sound m e s f l =
       sponge = f .sponge;
       pointer = f .next;
       clock = omega (arith, g .clock);
+      revision = s .revision;
     }
 
 pub dropped-sound : (m : Machine) → Sound m → 17 ≤ m .state .depth → Sound (dropped m)
@@ -148,9 +149,15 @@ dropped-sound m s h = record {
   sponge = s .sponge;
   pointer = s .pointer;
   clock = s .clock;
+  revision = s .revision;
 }
 
 -- the clock after a step
 pub performed-clock : (m : Machine) (e : Effect) → performed m e .state .clock ≡ m .state .clock + 1
 unfolding performed
 performed-clock m e = refl
+
+-- and the revision of the log, which no step changes
+pub performed-revision : (m : Machine) (e : Effect) → performed m e .state .revision ≡ m .state .revision
+unfolding performed
+performed-revision m e = refl

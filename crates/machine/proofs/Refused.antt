@@ -21,13 +21,13 @@ pub numbered-is : (n : ℕ) → refusalOf (E.Numbered n) ≡ plainly n
 unfolding refusalOf
 numbered-is n = refl
 
-pub open-accepts : (g : List ℕ) (c : Code) (m : Memory) (n : ℕ) → openA g c m n ≡ 0 → openOf g c m n ≡ took (opened g c m n)
+pub open-accepts : (v : ℕ) (g : List ℕ) (c : Code) (m : Memory) (n : ℕ) → openA v g c m n ≡ 0 → openOf v g c m n ≡ took (opened v g c m n)
 unfolding openOf
-open-accepts g c m n h = rw h
+open-accepts v g c m n h = rw h
 
-pub open-refuses : (g : List ℕ) (c : Code) (m : Memory) (n : ℕ) → (openA g c m n ≡ 0 → ⊥) → openOf g c m n ≡ kept (plainly (openA g c m n))
+pub open-refuses : (v : ℕ) (g : List ℕ) (c : Code) (m : Memory) (n : ℕ) → (openA v g c m n ≡ 0 → ⊥) → openOf v g c m n ≡ kept (plainly (openA v g c m n))
 unfolding openOf
-open-refuses g c m n h = rw (ne-eqb (openA g c m n) 0 h)
+open-refuses v g c m n h = rw (ne-eqb (openA v g c m n) 0 h)
 
 pub helpers-refused : (m : Machine) → (machineA m ≡ 0 → ⊥) → helperVariablesOf m ≡ (record { number = machineA m; helpers = replicate 6 0 })
 unfolding helperVariablesOf

@@ -108,7 +108,7 @@ module _ (decide : Machine → Decision) where
   roomy : {s : Space} {n : ℕ} {m : Machine} {p : Path} → Goes decide s n m p → s ≡ unlogged → p .ending ≡ full → ⊥
   roomy (at-halt h) u q = let z : _≡_ {A = ℕ} 0 1 = cc in omega arith
   roomy (at-budget h) u q = let z : _≡_ {A = ℕ} 0 1 = cc in omega arith
-  roomy (at-full h l) u q = true≢false (sym l ∙ ap tooLittle u)
+  roomy {m = m} (at-full h l) u q = true≢false (sym l ∙ ap (tooLittle (m .state .revision)) u)
   roomy (at-refusal h e) u q = let z : _≡_ {A = ℕ} 0 1 = cc in omega arith
   roomy (at-drop h e) u q = let z : _≡_ {A = ℕ} 0 1 = cc in omega arith
   roomy {m = m} (by-step h e g) u q = roomy g (ap (λ (s : Space). behind s (stepLog decide m)) u) q

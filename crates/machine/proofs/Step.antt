@@ -2,7 +2,7 @@
 use mathlib.Core.Path.{_≡_, refl}
 use mathlib.Core.Bool.{Bool, true, false}
 use mathlib.Core.List.{List, _++_}
-use Prim.Native.Nat.{ℕ, _+_}
+use Prim.Native.Nat.{ℕ}
 use native.Mathlib.Omega.{arith}
 use borrow.Author.Tests.{eqb-true, eq-eqb}
 use lib.ListN.{length, drop}
@@ -16,7 +16,7 @@ use Rattle.machine.specs.Records.{logBytes}
 use Rattle.machine.specs.PlaceA.{stepA}
 use Rattle.machine.specs.Step.{Stepped, recordsIn, steppedBy, outcomeBy, stepBy}
 use Rattle.machine.specs.Sound.{Sound, Facts}
-use Rattle.machine.proofs.Preserved.{performed-sound}
+use Rattle.machine.proofs.Preserved.{performed-sound, performed-revision}
 
 -- ---- the step behind place A
 
@@ -57,6 +57,14 @@ module _ (decide : Machine → Decision) where
   unfolding outcomeBy
   step-lost m r x h = settled-lost m (decide m) r x h
 
+  -- no step changes the log's revision
+  pub step-revision : (m x : Machine) → outcomeBy decide m ≡ took x → x .state .revision ≡ m .state .revision
+  step-revision m x h = let k = step-took m x h in rw (← k .is) (performed-revision m (k .effect))
+
+  pub lost-revision : (m : Machine) (r : Refusal) (x : Machine) → outcomeBy decide m ≡ lost r x → x .state .revision ≡ m .state .revision
+  unfolding dropped
+  lost-revision m r x h = let k = step-lost m r x h in rw (← k .1)
+
   -- ---- the call
 
   stepped-outcome : (b log : List ℕ) (o : Outcome) → steppedBy b log o .outcome ≡ o
@@ -69,9 +77,9 @@ module _ (decide : Machine → Decision) where
   step-outcome m b = go (eqb (stepA m b) 0)
     where
       go : (t : Bool) →
-          cond t (steppedBy b (logBytes (recordsIn m (decide m))) (outcomeBy decide m)) (record { outcome = kept (plainly (stepA m b)); bytes = 0; buffer = b }) .outcome
+          cond t (steppedBy b (logBytes (m .state .revision) (recordsIn m (decide m))) (outcomeBy decide m)) (record { outcome = kept (plainly (stepA m b)); bytes = 0; buffer = b }) .outcome
           ≡ cond t (outcomeBy decide m) (kept (plainly (stepA m b)))
-      go true = stepped-outcome b (logBytes (recordsIn m (decide m))) (outcomeBy decide m)
+      go true = stepped-outcome b (logBytes (m .state .revision) (recordsIn m (decide m))) (outcomeBy decide m)
       go false = refl
 
   -- what a call's buffer is, by its outcome
@@ -88,8 +96,8 @@ module _ (decide : Machine → Decision) where
       by log (kept r) = all-kept refl refl
       by log (lost r x) = all-kept refl refl
 
-      go : (t : Bool) → Left b (cond t (steppedBy b (logBytes (recordsIn m (decide m))) (outcomeBy decide m)) (record { outcome = kept (plainly (stepA m b)); bytes = 0; buffer = b }))
-      go true = by (logBytes (recordsIn m (decide m))) (outcomeBy decide m)
+      go : (t : Bool) → Left b (cond t (steppedBy b (logBytes (m .state .revision) (recordsIn m (decide m))) (outcomeBy decide m)) (record { outcome = kept (plainly (stepA m b)); bytes = 0; buffer = b }))
+      go true = by (logBytes (m .state .revision) (recordsIn m (decide m))) (outcomeBy decide m)
       go false = all-kept refl refl
 
   -- a refused step writes no byte. That it leaves the machine is by its outcome: kept has none, and lost has the one with the
@@ -110,7 +118,7 @@ module _ (decide : Machine → Decision) where
 
   -- a step that place A accepts and that succeeds leaves its records at the buffer's start
   pub step-records : (m : Machine) (b : List ℕ) (x : Machine) → stepA m b ≡ 0 → outcomeBy decide m ≡ took x →
-      stepBy decide m b ≡ (record { outcome = took x; bytes = length (logBytes (recordsIn m (decide m))); buffer = logBytes (recordsIn m (decide m)) ++ drop (length (logBytes (recordsIn m (decide m)))) b })
+      stepBy decide m b ≡ (record { outcome = took x; bytes = length (logBytes (m .state .revision) (recordsIn m (decide m))); buffer = logBytes (m .state .revision) (recordsIn m (decide m)) ++ drop (length (logBytes (m .state .revision) (recordsIn m (decide m)))) b })
   unfolding stepBy
   step-records m b x a h = rw (eq-eqb (stepA m b) 0 a, h)
 

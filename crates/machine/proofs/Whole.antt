@@ -52,8 +52,8 @@ step-refused m b h = go (stepOf m b .outcome) refl
 
 -- ---- open
 
-pub open-refused : (g : List ℕ) (c : Code) (m : Memory) (n : ℕ) → ((x : Machine) → openOf g c m n ≡ took x → ⊥) → openOf g c m n ≡ kept (plainly (openA g c m n))
-open-refused g c m n h = open-refuses g c m n (λ e. h (opened g c m n) (open-accepts g c m n e))
+pub open-refused : (v : ℕ) (g : List ℕ) (c : Code) (m : Memory) (n : ℕ) → ((x : Machine) → openOf v g c m n ≡ took x → ⊥) → openOf v g c m n ≡ kept (plainly (openA v g c m n))
+open-refused v g c m n h = open-refuses v g c m n (λ e. h (opened v g c m n) (open-accepts v g c m n e))
 
 -- ---- run and trace_execution
 

@@ -87,6 +87,7 @@ performedAt m e q s =
       digests = m .state .digests + e .digests;
       sponge = s;
       halted = e .halts;
+      revision = m .state .revision;
     })
     (m .code)
     (record {
@@ -117,6 +118,7 @@ dropped m =
       digests = m .state .digests;
       sponge = m .state .sponge;
       halted = m .state .halted;
+      revision = m .state .revision;
     })
     (m .code)
     (record {

@@ -4,6 +4,7 @@ use mathlib.Core.Bool.{Bool, true, false}
 use mathlib.Core.List.{List, [], _∷_}
 use lib.Dec.{eqb, ltb}
 use Rattle.choices.specs.Choice.{cond}
+use Rattle.machine.specs.Lengths.{clockBytes}
 
 pub data Instruction : Type 0 where
   -- stack
@@ -191,10 +192,10 @@ shrunkBy (shrinks k) n = k
 shrunkBy grows-by-argument n = 0
 shrunkBy shrinks-by-argument n = n
 
--- the bytes of all records of a step with the row's instruction and the argument n
-unfoldable pub bytesIn : Row → ℕ → ℕ
-bytesIn r n =
-    4 * r .resets + 774 * r .traces + 22 * r .u32s + 25 * (r .ramAccesses + n * r .ramPerWord)
+-- the bytes of all records of a step with the row's instruction and the argument n, in a log of revision v
+unfoldable pub bytesIn : ℕ → Row → ℕ → ℕ
+bytesIn v r n =
+    4 * r .resets + (774 + clockBytes v) * r .traces + (22 + clockBytes v) * r .u32s + 25 * (r .ramAccesses + n * r .ramPerWord)
     + 25 * (grownBy (r .change) n + shrunkBy (r .change) n)
 
 -- 4 where the argument is not allowed

@@ -1,4 +1,4 @@
--- open: the machine before the first step.
+-- open: the machine before the first step, with a log of the revision chosen.
 use Prim.Native.Nat.{ℕ, _-_}
 use mathlib.Core.Bool.{false}
 use mathlib.Core.List.{List, _∷_}
@@ -20,8 +20,8 @@ noSponge = record { words = replicate 16 0; set = false }
 unfoldable pub openedStack : List ℕ → List ℕ → List ℕ
 openedStack digest s = getD digest 4 0 ∷ getD digest 3 0 ∷ getD digest 2 0 ∷ getD digest 1 0 ∷ getD digest 0 0 ∷ replicate (length s - 5) 0
 
-unfoldable pub opened : List ℕ → Code → Memory → ℕ → Machine
-opened digest c m n =
+unfoldable pub opened : ℕ → List ℕ → Code → Memory → ℕ → Machine
+opened v digest c m n =
     machine
     (record {
       clock = 0;
@@ -35,6 +35,7 @@ opened digest c m n =
       digests = 0;
       sponge = noSponge;
       halted = false;
+      revision = v;
     })
     c
     (record {
@@ -47,5 +48,5 @@ opened digest c m n =
     })
 
 -- a refused open changes nothing that is lent
-unfoldable pub openOf : List ℕ → Code → Memory → ℕ → Outcome
-openOf digest c m n = cond (eqb (openA digest c m n) 0) (took (opened digest c m n)) (kept (plainly (openA digest c m n)))
+unfoldable pub openOf : ℕ → List ℕ → Code → Memory → ℕ → Outcome
+openOf v digest c m n = cond (eqb (openA v digest c m n) 0) (took (opened v digest c m n)) (kept (plainly (openA v digest c m n)))

@@ -6,7 +6,7 @@ use mathlib.Core.List.{List, [], _∷_, _++_}
 use lib.ListN.{length}
 use lib.Dec.{ltb}
 use Rattle.choices.specs.Choice.{cond}
-use Rattle.machine.specs.Lengths.{mostOfStep}
+use Rattle.machine.specs.Lengths.{mostBytes}
 use Rattle.machine.specs.Refusal.{Refusal}
 use Rattle.machine.specs.Machine.{Machine}
 use Rattle.machine.specs.Effect.{Decision}
@@ -52,10 +52,10 @@ pub data Space : Type 0 where
   unlogged : Space
   bytes : ℕ → Space
 
--- whether so little is left that no step is tried
-abbrev pub tooLittle : Space → Bool
-tooLittle unlogged = false
-tooLittle (bytes n) = ltb n mostOfStep
+-- whether so little is left that no step is tried, of a log of revision v
+abbrev pub tooLittle : ℕ → Space → Bool
+tooLittle v unlogged = false
+tooLittle v (bytes n) = ltb n (mostBytes v)
 
 abbrev pub behind : Space → List ℕ → Space
 behind unlogged log = unlogged
@@ -64,14 +64,14 @@ behind (bytes n) log = bytes (n - length log)
 module _ (decide : Machine → Decision) where
   -- the bytes of the records of a step from m
   unfoldable pub stepLog : Machine → List ℕ
-  stepLog m = logBytes (recordsIn m (decide m))
+  stepLog m = logBytes (m .state .revision) (recordsIn m (decide m))
 
   -- at most n steps. Halted is tried before spent, spent before full, and full before a step
   unfoldable pub pathBy : Space → ℕ → Machine → Path
   pathBy s zero m = stays (cond (m .state .halted) halted spent) m
   pathBy s (suc n) m =
       cond (m .state .halted) (stays halted m)
-      (cond (tooLittle s) (stays full m) (onward m (λ x. pathBy (behind s (stepLog m)) n x) (outcomeBy decide m)))
+      (cond (tooLittle (m .state .revision) s) (stays full m) (onward m (λ x. pathBy (behind s (stepLog m)) n x) (outcomeBy decide m)))
 
   -- the records of the steps from m through the machines, as step writes them
   unfoldable pub logFrom : Machine → List Machine → List Record

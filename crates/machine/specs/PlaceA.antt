@@ -2,9 +2,10 @@
 use Prim.Native.Nat.{ℕ, zero, suc, _+_, _-_, _*_, _/_, _%_, min}
 use mathlib.Core.List.{List, [], _∷_}
 use lib.ListN.{length, getD}
-use Rattle.choices.specs.Choice.{firstOf, firstIn, aboveOf, differOf}
+use lib.Dec.{eqb}
+use Rattle.choices.specs.Choice.{cond, firstOf, firstIn, aboveOf, differOf}
 use Rattle.machine.specs.Words.{wordOf2, wordsOf, zerosFrom}
-pub use Rattle.machine.specs.Lengths.{longest, tooLong, mostOfStep}
+pub use Rattle.machine.specs.Lengths.{longest, tooLong, mostBytes}
 use Rattle.machine.specs.Ram.{Cells, cells, cells1, cells2, cells5}
 use Rattle.machine.specs.Instruction.{Decoded, known, unknown, decode, argumentFault}
 use Rattle.machine.specs.Machine.{Code, Memory, Machine, ram}
@@ -35,9 +36,9 @@ memory1 m =
     ∷ tooLong (m .output)
     ∷ [])
 
--- step's call buffer
-unfoldable pub buffer1 : List ℕ → ℕ
-buffer1 b = firstOf (tooLong b) (aboveOf mostOfStep (length b) 1)
+-- step's call buffer, for a log of revision v
+unfoldable pub buffer1 : ℕ → List ℕ → ℕ
+buffer1 v b = firstOf (tooLong b) (aboveOf (mostBytes v) (length b) 1)
 
 -- ---- 2: words at or above p. A used word is one of the slice whose index is below the count
 
@@ -66,7 +67,7 @@ machine2 m =
     ∷ wordOf2 (m .state .pointer)
     ∷ [])
 
--- ---- 3 and 4: slots, reached or not
+-- ---- 3 and 4: slots, reached or not, and the revision
 
 abbrev pub unknown3 : Decoded → ℕ
 unknown3 (known r) = 0
@@ -87,6 +88,10 @@ arguments4 s a (suc n) = firstOf (arguments4 s a n) (argument4 (decode (getD s n
 
 unfoldable pub code34 : Code → ℕ
 code34 c = firstOf (opcodes3 (c .opcodes) (length (c .opcodes))) (arguments4 (c .opcodes) (c .arguments) (length (c .opcodes)))
+
+-- 4 for a revision that there is not
+unfoldable pub revision4 : ℕ → ℕ
+revision4 v = cond (eqb v 1) 0 (cond (eqb v 2) 0 4)
 
 -- ---- 5: depth, counts and positions outside their slices, unused stack words that are not 0, RAM addresses that do not ascend
 
@@ -114,18 +119,19 @@ machine5 m =
 
 -- run and helper variables
 unfoldable pub machineA : Machine → ℕ
-machineA m = firstIn (firstOf (code1 (m .code)) (memory1 (m .memory)) ∷ machine2 m ∷ code34 (m .code) ∷ machine5 m ∷ [])
+machineA m = firstIn (firstOf (code1 (m .code)) (memory1 (m .memory)) ∷ machine2 m ∷ code34 (m .code) ∷ revision4 (m .state .revision) ∷ machine5 m ∷ [])
 
 -- step, with its call buffer
 unfoldable pub stepA : Machine → List ℕ → ℕ
-stepA m b = firstOf (buffer1 b) (machineA m)
+stepA m b = firstOf (buffer1 (m .state .revision) b) (machineA m)
 
--- open: the program digest, the program and inputs, the lent memory and how many of its RAM cells are used
-unfoldable pub openA : List ℕ → Code → Memory → ℕ → ℕ
-openA digest c m n =
+-- open: the log's revision, the program digest, the program and inputs, the lent memory and how many of its RAM cells are used
+unfoldable pub openA : ℕ → List ℕ → Code → Memory → ℕ → ℕ
+openA v digest c m n =
     firstIn
     (firstOf (code1 c) (memory1 m)
     ∷ firstIn (code2 c ∷ wordsOf digest 5 ∷ cells2 (cells n (m .addresses) (m .values)) ∷ [])
     ∷ code34 c
+    ∷ revision4 v
     ∷ cells5 (cells n (m .addresses) (m .values))
     ∷ [])

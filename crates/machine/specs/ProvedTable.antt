@@ -44,6 +44,7 @@ asked opcode argument depth words =
       digests = 0;
       sponge = noSponge;
       halted = false;
+      revision = 1;
     })
     (record {
       opcodes = opcode ∷ [];

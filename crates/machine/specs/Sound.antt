@@ -12,7 +12,7 @@ use Rattle.machine.specs.Ram.{Cells, held, stored, fallsOf}
 use Rattle.machine.specs.Machine.{Code, Memory, Machine, ram}
 use Rattle.machine.specs.Effect.{Call, reset, tip5, u32, ramRead, ramWrite, JumpChange, stays, pushes, pops, Effect}
 use Rattle.machine.specs.Apply.{pointerAfter, spongeAfter}
-use Rattle.machine.specs.PlaceA.{longest, opcodes3, arguments4}
+use Rattle.machine.specs.PlaceA.{longest, opcodes3, arguments4, revision4}
 
 pub record SoundCode (c : Code) : Type 0 where
   pub slots : length (c .opcodes) ≡ length (c .arguments)
@@ -63,6 +63,7 @@ pub record Sound (m : Machine) : Type 0 where
   pub sponge : SoundSponge (m .state .sponge)
   pub pointer : m .state .pointer < p
   pub clock : m .state .clock < 4294967296
+  pub revision : revision4 (m .state .revision) ≡ 0
 
 -- ---- effects
 

@@ -37,7 +37,7 @@ module _ (decide : Machine → Decision) where
   unfoldable pub stepBy : Machine → List ℕ → Stepped
   stepBy m b =
       cond (eqb (stepA m b) 0)
-      (steppedBy b (logBytes (recordsIn m (decide m))) (outcomeBy m))
+      (steppedBy b (logBytes (m .state .revision) (recordsIn m (decide m))) (outcomeBy m))
       (record { outcome = kept (plainly (stepA m b)); bytes = 0; buffer = b })
 
 -- of the real instruction set

@@ -18,4 +18,6 @@ pub struct VMState {
     pub digests: usize,
     pub sponge: Sponge,
     pub halted: bool,
+    // The log's revision: 1, or 2, whose Tip5 and U32 records have a clock.
+    pub revision: u64,
 }

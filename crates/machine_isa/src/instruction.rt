@@ -1,5 +1,6 @@
-// The instructions' table: size, argument and depth change of each opcode.
+// The instructions' table: size, argument and depth change of each opcode, and the most bytes that a step writes.
 ghost use mathlib.Core.Path.{_≡_};
+ghost use Rattle.machine.specs.Lengths.{mostBytes};
 ghost use Rattle.machine.specs.Instruction.{decode, sizeOf};
 ghost use Rattle.machine_isa.specs.InstructionView.{knownIn, kindIn, changeIn, grownIn, shrunkIn};
 ghost use Rattle.machine.specs.PlaceA.{unknown3, argument4};
@@ -101,4 +102,11 @@ pub fn shrunk(opcode: u64, argument: u64) -> u64
     } else {
         if c < 32 { (c - 16) as u64 } else { 0 }
     }
+}
+
+// The most bytes that the records of a step take, by the log's revision.
+pub fn most_bytes(revision: u64) -> usize
+    ensures { λ r. ⌜ r ≡ mostBytes revision ⌝ }
+{
+    if revision == 2 { 1028 } else { 1024 }
 }

@@ -7,7 +7,7 @@ ghost use Rattle.machine.specs.Bytes.{bytesOf};
 ghost use Rattle.machine.specs.Records.{other, stack as stacked, ram, recordBytes, wordsBytes, growing, shrinking, stackRecords, callRecords};
 ghost use Rattle.machine.specs.Effect.{reset, tip5};
 ghost use Rattle.machine_effects.specs.EffectView.{callsOf};
-ghost use Rattle.machine_log.specs.Logged.{logged, Wrote, accesses, callBytes, stackBytes, Countable, Deep, LogRoom, u32Record, u32Records};
+ghost use Rattle.machine_log.specs.Logged.{logged, Wrote, WroteAny, FrontAny, tip5Bytes, u32Bytes, accesses, callBytes, stackBytes, Countable, Deep, LogRoom, tip5Record, u32Record, u32Records};
 use machine_effects::effect::Effect;
 use machine_effects::effect::U32Call;
 use machine_isa::op_stack::over;
@@ -66,33 +66,53 @@ fn put_words(b: &mut [u8], at: usize, words: &[u64])
 
 fn reset_record(b: &mut [u8])
     requires { ⌜ 4 ≤ length (now b) ⌝ }
-    ensures { λ _. ⌜ now (b .exit) ≡ logged (now (b .entry)) 0 (recordBytes (other 1 Nil)) ⌝ }
+    ensures { λ _. ⌜ FrontAny (now (b .entry)) (now (b .exit)) (other 1 Nil) ⌝ }
 {
     put4(b, 0, 65538);
 }
 
-fn tip5_record(b: &mut [u8], opcode: u64, trace: &[u64])
-    requires { ⌜ (774 ≤ length (now b)) × (length (now trace) ≡ 96) ⌝ }
-    ensures { λ _. ⌜ now (b .exit) ≡ logged (now (b .entry)) 0 (recordBytes (other 2 (bytesOf 2 opcode ++ wordsBytes (now (trace .entry))))) ⌝ }
+// Each gives how many bytes it takes. In revision 2 length and kind are larger by 4, and the clock stands before the fields; the places are written
+// out, so that they are constants to the compiler.
+
+fn tip5_record(b: &mut [u8], revision: u64, clock: u32, opcode: u64, trace: &[u64]) -> usize
+    requires { ⌜ (tip5Bytes revision ≤ length (now b)) × (length (now trace) ≡ 96) ⌝ }
+    ensures { λ r. ⌜ (now (b .exit) ≡ logged (now (b .entry)) 0 (recordBytes revision (tip5Record revision clock opcode (now (trace .entry))))) × (r ≡ tip5Bytes revision) ⌝ }
 {
+    if revision == 2 {
+        put4(b, 0, 393992);
+        put4(b, 4, clock as u64); // that before the step
+        put2(b, 8, opcode);
+        put_words(b, 10, trace);
+        return 778;
+    }
     put4(b, 0, 131844);
     put2(b, 4, opcode);
     put_words(b, 6, trace);
+    774
 }
 
-fn u32_record(b: &mut [u8], call: U32Call)
-    requires { ⌜ 22 ≤ length (now b) ⌝ }
-    ensures { λ _. ⌜ now (b .exit) ≡ logged (now (b .entry)) 0 (recordBytes (u32Record call)) ⌝ }
+fn u32_record(b: &mut [u8], revision: u64, clock: u32, call: U32Call) -> usize
+    requires { ⌜ u32Bytes revision ≤ length (now b) ⌝ }
+    ensures { λ r. ⌜ (now (b .exit) ≡ logged (now (b .entry)) 0 (recordBytes revision (u32Record revision clock call))) × (r ≡ u32Bytes revision) ⌝ }
 {
+    if revision == 2 {
+        put4(b, 0, 458776);
+        put4(b, 4, clock as u64);
+        put2(b, 8, call.opcode);
+        put8(b, 10, call.left);
+        put8(b, 18, call.right);
+        return 26;
+    }
     put4(b, 0, 196628);
     put2(b, 4, call.opcode);
     put8(b, 6, call.left);
     put8(b, 14, call.right);
+    22
 }
 
 fn stack_record(b: &mut [u8], clock: u32, pointer: u64, dir: u8, value: u64)
     requires { ⌜ 25 ≤ length (now b) ⌝ }
-    ensures { λ _. ⌜ now (b .exit) ≡ logged (now (b .entry)) 0 (recordBytes (stacked clock pointer dir value)) ⌝ }
+    ensures { λ _. ⌜ FrontAny (now (b .entry)) (now (b .exit)) (stacked clock pointer dir value) ⌝ }
 {
     put4(b, 0, 262167);
     put4(b, 4, clock as u64);
@@ -103,7 +123,7 @@ fn stack_record(b: &mut [u8], clock: u32, pointer: u64, dir: u8, value: u64)
 
 fn ram_record(b: &mut [u8], clock: u32, address: u64, value: u64, dir: u8)
     requires { ⌜ 25 ≤ length (now b) ⌝ }
-    ensures { λ _. ⌜ now (b .exit) ≡ logged (now (b .entry)) 0 (recordBytes (ram clock address value dir)) ⌝ }
+    ensures { λ _. ⌜ FrontAny (now (b .entry)) (now (b .exit)) (ram clock address value dir) ⌝ }
 {
     put4(b, 0, 327703);
     put4(b, 4, clock as u64);
@@ -116,31 +136,31 @@ fn ram_record(b: &mut [u8], clock: u32, address: u64, value: u64, dir: u8)
 
 fn log_reset(b: &mut [u8], at: usize) -> usize
     requires { ⌜ at + 4 ≤ length (now b) ⌝ }
-    ensures { λ r. ⌜ Wrote (now (b .entry)) (now (b .exit)) at (other 1 Nil ∷ Nil) 4 r ⌝ }
+    ensures { λ r. ⌜ WroteAny (now (b .entry)) (now (b .exit)) at (other 1 Nil ∷ Nil) 4 r ⌝ }
 {
     reset_record(&mut b[at..]);
     at + 4
 }
 
-fn log_tip5(b: &mut [u8], at: usize, opcode: u64, trace: &[u64]) -> usize
-    requires { ⌜ (at + 774 ≤ length (now b)) × (length (now trace) ≡ 96) ⌝ }
-    ensures { λ r. ⌜ Wrote (now (b .entry)) (now (b .exit)) at (other 2 (bytesOf 2 opcode ++ wordsBytes (now (trace .entry))) ∷ Nil) 774 r ⌝ }
+fn log_tip5(b: &mut [u8], at: usize, revision: u64, clock: u32, opcode: u64, trace: &[u64]) -> usize
+    requires { ⌜ (at + tip5Bytes revision ≤ length (now b)) × (length (now trace) ≡ 96) ⌝ }
+    ensures { λ r. ⌜ Wrote revision (now (b .entry)) (now (b .exit)) at (tip5Record revision clock opcode (now (trace .entry)) ∷ Nil) (tip5Bytes revision) r ⌝ }
 {
-    tip5_record(&mut b[at..], opcode, trace);
-    at + 774
+    let n = tip5_record(&mut b[at..], revision, clock, opcode, trace);
+    at + n
 }
 
-fn log_u32(b: &mut [u8], at: usize, call: U32Call) -> usize
-    requires { ⌜ at + 22 ≤ length (now b) ⌝ }
-    ensures { λ r. ⌜ Wrote (now (b .entry)) (now (b .exit)) at (u32Record call ∷ Nil) 22 r ⌝ }
+fn log_u32(b: &mut [u8], at: usize, revision: u64, clock: u32, call: U32Call) -> usize
+    requires { ⌜ at + u32Bytes revision ≤ length (now b) ⌝ }
+    ensures { λ r. ⌜ Wrote revision (now (b .entry)) (now (b .exit)) at (u32Record revision clock call ∷ Nil) (u32Bytes revision) r ⌝ }
 {
-    u32_record(&mut b[at..], call);
-    at + 22
+    let n = u32_record(&mut b[at..], revision, clock, call);
+    at + n
 }
 
 fn log_stack(b: &mut [u8], at: usize, clock: u32, pointer: u64, dir: u8, value: u64) -> usize
     requires { ⌜ at + 25 ≤ length (now b) ⌝ }
-    ensures { λ r. ⌜ Wrote (now (b .entry)) (now (b .exit)) at (stacked clock pointer dir value ∷ Nil) 25 r ⌝ }
+    ensures { λ r. ⌜ WroteAny (now (b .entry)) (now (b .exit)) at (stacked clock pointer dir value ∷ Nil) 25 r ⌝ }
 {
     stack_record(&mut b[at..], clock, pointer, dir, value);
     at + 25
@@ -148,7 +168,7 @@ fn log_stack(b: &mut [u8], at: usize, clock: u32, pointer: u64, dir: u8, value: 
 
 fn log_ram(b: &mut [u8], at: usize, clock: u32, address: u64, value: u64, dir: u8) -> usize
     requires { ⌜ at + 25 ≤ length (now b) ⌝ }
-    ensures { λ r. ⌜ Wrote (now (b .entry)) (now (b .exit)) at (ram clock address value dir ∷ Nil) 25 r ⌝ }
+    ensures { λ r. ⌜ WroteAny (now (b .entry)) (now (b .exit)) at (ram clock address value dir ∷ Nil) 25 r ⌝ }
 {
     ram_record(&mut b[at..], clock, address, value, dir);
     at + 25
@@ -157,18 +177,26 @@ fn log_ram(b: &mut [u8], at: usize, clock: u32, address: u64, value: u64, dir: u
 // ---- runs of records
 
 // The first n of two calls of the U32 table, both where n is more.
-fn log_u32s(b: &mut [u8], at: usize, n: usize, first: U32Call, second: U32Call) -> usize
-    requires { ⌜ at + 22 * min n 2 ≤ length (now b) ⌝ }
-    ensures { λ r. ⌜ Wrote (now (b .entry)) (now (b .exit)) at (u32Records n first second) (22 * min n 2) r ⌝ }
+fn log_u32s(
+    b: &mut [u8],
+    at: usize,
+    revision: u64,
+    clock: u32,
+    n: usize,
+    first: U32Call,
+    second: U32Call,
+) -> usize
+    requires { ⌜ at + u32Bytes revision * min n 2 ≤ length (now b) ⌝ }
+    ensures { λ r. ⌜ Wrote revision (now (b .entry)) (now (b .exit)) at (u32Records revision clock n first second) (u32Bytes revision * min n 2) r ⌝ }
 {
     if n == 0 {
         return at;
     }
-    let next = log_u32(b, at, first);
+    let next = log_u32(b, at, revision, clock, first);
     if n == 1 {
         return next;
     }
-    log_u32(b, next, second)
+    log_u32(b, next, revision, clock, second)
 }
 
 // n accesses of RAM in one direction, from place `from` of the arrays on.
@@ -183,7 +211,7 @@ fn log_accesses(
     dir: u8,
 ) -> usize
     requires { ⌜ (at + 25 * n ≤ length (now b)) × (from + n ≤ 10) ⌝ }
-    ensures { λ r. ⌜ Wrote (now (b .entry)) (now (b .exit)) at (accesses clock addresses values dir from n) (25 * n) r ⌝ }
+    ensures { λ r. ⌜ WroteAny (now (b .entry)) (now (b .exit)) at (accesses clock addresses values dir from n) (25 * n) r ⌝ }
 {
     let mut next = at;
     let mut i = 0;
@@ -197,7 +225,7 @@ fn log_accesses(
 // n writes from pointer q upward: the words that a growing step leaves below the top sixteen.
 fn log_growing(b: &mut [u8], at: usize, clock: u32, stack: &[u64], q: usize, n: usize) -> usize
     requires { ⌜ (at + 25 * n ≤ length (now b)) × (16 ≤ q) × (q + n ≤ length (now stack) + 16) ⌝ }
-    ensures { λ r. ⌜ Wrote (now (b .entry)) (now (b .exit)) at (growing clock (now (stack .entry)) q n) (25 * n) r ⌝ }
+    ensures { λ r. ⌜ WroteAny (now (b .entry)) (now (b .exit)) at (growing clock (now (stack .entry)) q n) (25 * n) r ⌝ }
 {
     let mut next = at;
     let mut i = 0;
@@ -211,7 +239,7 @@ fn log_growing(b: &mut [u8], at: usize, clock: u32, stack: &[u64], q: usize, n: 
 // n reads from pointer q - 1 downward: the words that a shrinking step brings into the top sixteen.
 fn log_shrinking(b: &mut [u8], at: usize, clock: u32, stack: &[u64], q: usize, n: usize) -> usize
     requires { ⌜ (at + 25 * n ≤ length (now b)) × (16 + n ≤ q) × (q ≤ length (now stack) + 16) ⌝ }
-    ensures { λ r. ⌜ Wrote (now (b .entry)) (now (b .exit)) at (shrinking clock (now (stack .entry)) q n) (25 * n) r ⌝ }
+    ensures { λ r. ⌜ WroteAny (now (b .entry)) (now (b .exit)) at (shrinking clock (now (stack .entry)) q n) (25 * n) r ⌝ }
 {
     let mut next = at;
     let mut i = 0;
@@ -233,7 +261,7 @@ pub fn log_depth(
     after: usize,
 ) -> usize
     requires { ⌜ (at + stackBytes depth after ≤ length (now b)) × Deep (now stack) depth after ⌝ }
-    ensures { λ r. ⌜ Wrote (now (b .entry)) (now (b .exit)) at (stackRecords clock (now (stack .entry)) (now (stack .entry)) depth after) (stackBytes depth after) r ⌝ }
+    ensures { λ r. ⌜ WroteAny (now (b .entry)) (now (b .exit)) at (stackRecords clock (now (stack .entry)) (now (stack .entry)) depth after) (stackBytes depth after) r ⌝ }
 {
     let up = over(after, depth);
     let down = over(depth, after);
@@ -242,15 +270,15 @@ pub fn log_depth(
 }
 
 // An effect's own calls: of the U32 table, then reads, then writes.
-fn log_calls(b: &mut [u8], at: usize, clock: u32, effect: Effect) -> usize
-    requires { ⌜ (at + callBytes effect ≤ length (now b)) × Countable effect ⌝ }
-    ensures { λ r. ⌜ Wrote (now (b .entry)) (now (b .exit)) at (callRecords clock (callsOf effect)) (callBytes effect) r ⌝ }
+fn log_calls(b: &mut [u8], at: usize, revision: u64, clock: u32, effect: Effect) -> usize
+    requires { ⌜ (at + callBytes revision effect ≤ length (now b)) × Countable effect ⌝ }
+    ensures { λ r. ⌜ Wrote revision (now (b .entry)) (now (b .exit)) at (callRecords revision clock (callsOf effect)) (callBytes revision effect) r ⌝ }
 {
     let addresses = effect.addresses;
     let values = effect.values;
     let first = effect.u32_0;
     let second = effect.u32_1;
-    let next = log_u32s(b, at, effect.u32s, first, second);
+    let next = log_u32s(b, at, revision, clock, effect.u32s, first, second);
     let then = log_accesses(b, next, clock, addresses, values, 0, effect.reads, 0);
     log_accesses(
         b,
@@ -272,43 +300,46 @@ fn log_calls(b: &mut [u8], at: usize, clock: u32, effect: Effect) -> usize
 // A plain effect's calls, then the op stack's.
 pub fn write_plain(
     b: &mut [u8],
+    revision: u64,
     clock: u32,
     effect: Effect,
     stack: &[u64],
     depth: usize,
     after: usize,
 ) -> usize
-    requires { ⌜ LogRoom 0 effect (now stack) (now b) depth after ⌝ }
-    ensures { λ r. ⌜ Wrote (now (b .entry)) (now (b .exit)) 0
-        (callRecords clock (callsOf effect) ++ stackRecords clock (now (stack .entry)) (now (stack .entry)) depth after)
-        (callBytes effect + stackBytes depth after) r ⌝ }
+    requires { ⌜ LogRoom revision 0 effect (now stack) (now b) depth after ⌝ }
+    ensures { λ r. ⌜ Wrote revision (now (b .entry)) (now (b .exit)) 0
+        (callRecords revision clock (callsOf effect) ++ stackRecords clock (now (stack .entry)) (now (stack .entry)) depth after)
+        (callBytes revision effect + stackBytes depth after) r ⌝ }
 {
-    let next = log_calls(b, 0, clock, effect);
+    let next = log_calls(b, 0, revision, clock, effect);
     log_depth(b, next, clock, stack, depth, after)
 }
 
 // A sponge reset first.
 pub fn write_reset(
     b: &mut [u8],
+    revision: u64,
     clock: u32,
     effect: Effect,
     stack: &[u64],
     depth: usize,
     after: usize,
 ) -> usize
-    requires { ⌜ LogRoom 4 effect (now stack) (now b) depth after ⌝ }
-    ensures { λ r. ⌜ Wrote (now (b .entry)) (now (b .exit)) 0
-        (callRecords clock (reset ∷ callsOf effect) ++ stackRecords clock (now (stack .entry)) (now (stack .entry)) depth after)
-        (4 + callBytes effect + stackBytes depth after) r ⌝ }
+    requires { ⌜ LogRoom revision 4 effect (now stack) (now b) depth after ⌝ }
+    ensures { λ r. ⌜ Wrote revision (now (b .entry)) (now (b .exit)) 0
+        (callRecords revision clock (reset ∷ callsOf effect) ++ stackRecords clock (now (stack .entry)) (now (stack .entry)) depth after)
+        (4 + callBytes revision effect + stackBytes depth after) r ⌝ }
 {
     let next = log_reset(b, 0);
-    let then = log_calls(b, next, clock, effect);
+    let then = log_calls(b, next, revision, clock, effect);
     log_depth(b, then, clock, stack, depth, after)
 }
 
 // A Tip5 record first.
 pub fn write_hashed(
     b: &mut [u8],
+    revision: u64,
     clock: u32,
     opcode: u64,
     trace: &[u64],
@@ -317,19 +348,20 @@ pub fn write_hashed(
     depth: usize,
     after: usize,
 ) -> usize
-    requires { ⌜ LogRoom 774 effect (now stack) (now b) depth after × (length (now trace) ≡ 96) ⌝ }
-    ensures { λ r. ⌜ Wrote (now (b .entry)) (now (b .exit)) 0
-        (callRecords clock (tip5 opcode (now (trace .entry)) ∷ callsOf effect) ++ stackRecords clock (now (stack .entry)) (now (stack .entry)) depth after)
-        (774 + callBytes effect + stackBytes depth after) r ⌝ }
+    requires { ⌜ LogRoom revision (tip5Bytes revision) effect (now stack) (now b) depth after × (length (now trace) ≡ 96) ⌝ }
+    ensures { λ r. ⌜ Wrote revision (now (b .entry)) (now (b .exit)) 0
+        (callRecords revision clock (tip5 opcode (now (trace .entry)) ∷ callsOf effect) ++ stackRecords clock (now (stack .entry)) (now (stack .entry)) depth after)
+        (tip5Bytes revision + callBytes revision effect + stackBytes depth after) r ⌝ }
 {
-    let next = log_tip5(b, 0, opcode, trace);
-    let then = log_calls(b, next, clock, effect);
+    let next = log_tip5(b, 0, revision, clock, opcode, trace);
+    let then = log_calls(b, next, revision, clock, effect);
     log_depth(b, then, clock, stack, depth, after)
 }
 
 // A Tip5 record between the effect's calls, which are reads, and the op stack's.
 pub fn write_read_hashed(
     b: &mut [u8],
+    revision: u64,
     clock: u32,
     opcode: u64,
     trace: &[u64],
@@ -338,12 +370,12 @@ pub fn write_read_hashed(
     depth: usize,
     after: usize,
 ) -> usize
-    requires { ⌜ LogRoom 774 effect (now stack) (now b) depth after × (length (now trace) ≡ 96) ⌝ }
-    ensures { λ r. ⌜ Wrote (now (b .entry)) (now (b .exit)) 0
-        (callRecords clock (callsOf effect ++ (tip5 opcode (now (trace .entry)) ∷ Nil)) ++ stackRecords clock (now (stack .entry)) (now (stack .entry)) depth after)
-        (774 + callBytes effect + stackBytes depth after) r ⌝ }
+    requires { ⌜ LogRoom revision (tip5Bytes revision) effect (now stack) (now b) depth after × (length (now trace) ≡ 96) ⌝ }
+    ensures { λ r. ⌜ Wrote revision (now (b .entry)) (now (b .exit)) 0
+        (callRecords revision clock (callsOf effect ++ (tip5 opcode (now (trace .entry)) ∷ Nil)) ++ stackRecords clock (now (stack .entry)) (now (stack .entry)) depth after)
+        (tip5Bytes revision + callBytes revision effect + stackBytes depth after) r ⌝ }
 {
-    let next = log_calls(b, 0, clock, effect);
-    let then = log_tip5(b, next, opcode, trace);
+    let next = log_calls(b, 0, revision, clock, effect);
+    let then = log_tip5(b, next, revision, clock, opcode, trace);
     log_depth(b, then, clock, stack, depth, after)
 }

@@ -45,16 +45,16 @@ wiped s {r} h =
 
 -- ---- the answers
 
-module _ (g : List ℕ) (c : Code) (m : Memory) (k : ℕ) {n : ℕ} (h : n ≡ openA g c m k) where
+module _ (v : ℕ) (g : List ℕ) (c : Code) (m : Memory) (k : ℕ) {n : ℕ} (h : n ≡ openA v g c m k) where
   pub open-deep : n ≡ 0 → 16 ≤ length (m .opStack)
   unfolding openA memory1
   open-deep z = above-nil _ _ 1 (omega arith) (first-nil _ _ (first-nil _ _ (first-nil _ _ (first-nil _ _ (sym h ∙ z) .0) .1) .1) .0)
 
-  pub open-took : n ≡ 0 → {s : VMState} {stack origins destinations : List ℕ} → s ≡ registersOf 16 k → stack ≡ openedStack g (m .opStack) →
+  pub open-took : n ≡ 0 → {s : VMState} {stack origins destinations : List ℕ} → s ≡ registersOf 16 k v → stack ≡ openedStack g (m .opStack) →
       origins ≡ replicate (length (m .origins)) 0 → destinations ≡ replicate (length (m .destinations)) 0 →
-      Opens g c m k (record { answer = Took; state = s }) (memory stack origins destinations (m .addresses) (m .values) (m .output))
+      Opens v g c m k (record { answer = Took; state = s }) (memory stack origins destinations (m .addresses) (m .values) (m .output))
   unfolding opened
-  open-took z e f o d = record { is = rw (open-accepts g c m k (sym h ∙ z)) (record { answer = refl; left = rw (e, f, o, d) }) }
+  open-took z e f o d = record { is = rw (open-accepts v g c m k (sym h ∙ z)) (record { answer = refl; left = rw (e, f, o, d) }) }
 
-  pub open-kept : (n ≡ 0 → ⊥) → {s : VMState} → s ≡ noState → Opens g c m k (record { answer = Refused (I.Numbered n); state = s }) m
-  open-kept z e = record { is = rw (open-refuses g c m k (λ y. z (h ∙ y))) (record { answer = ap turned (numbered-is n ∙ ap plainly h); left = rw e }) }
+  pub open-kept : (n ≡ 0 → ⊥) → {s : VMState} → s ≡ noState → Opens v g c m k (record { answer = Refused (I.Numbered n); state = s }) m
+  open-kept z e = record { is = rw (open-refuses v g c m k (λ y. z (h ∙ y))) (record { answer = ap turned (numbered-is n ∙ ap plainly h); left = rw e }) }

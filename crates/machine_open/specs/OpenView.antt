@@ -8,9 +8,9 @@ use Rattle.machine.specs.Open.{noSponge, openOf}
 use Rattle.machine_perform.specs.declared.answer.Moved.{Moved}
 use Rattle.machine_perform.specs.AnswerView.{Gives}
 
--- a depth and so many RAM cells used, all else 0, not halted and with no sponge
-abbrev pub registersOf : ℕ → ℕ → VMState
-registersOf depth n =
+-- a depth, so many RAM cells used and a revision, all else 0, not halted and with no sponge
+abbrev pub registersOf : ℕ → ℕ → ℕ → VMState
+registersOf depth n v =
     record {
       clock = 0;
       pointer = 0;
@@ -23,12 +23,13 @@ registersOf depth n =
       digests = 0;
       sponge = noSponge;
       halted = false;
+      revision = v;
     }
 
 -- what a refused open gives: there is no job
 abbrev pub noState : VMState
-noState = registersOf 0 0
+noState = registersOf 0 0 0
 
 -- the answer, the registers and everything lent are those of openOf
-pub record Opens (digest : List ℕ) (c : Code) (m : Memory) (n : ℕ) (r : Moved) (after : Memory) : Type 0 where
-  pub is : Gives (machine noState c m) (openOf digest c m n) (r .answer) (machine (r .state) c after)
+pub record Opens (v : ℕ) (digest : List ℕ) (c : Code) (m : Memory) (n : ℕ) (r : Moved) (after : Memory) : Type 0 where
+  pub is : Gives (machine noState c m) (openOf v digest c m n) (r .answer) (machine (r .state) c after)

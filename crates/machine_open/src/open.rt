@@ -14,9 +14,9 @@ use machine_perform::answer::Moved;
 use machine_place_a::checks::check_open;
 use tip5::sponge::Sponge;
 
-// All registers 0 but for these two, and no sponge.
-fn registers(depth: usize, cells: usize) -> VMState
-    ensures { λ r. ⌜ r ≡ registersOf depth cells ⌝ }
+// All registers 0 but for these three, and no sponge.
+fn registers(depth: usize, cells: usize, revision: u64) -> VMState
+    ensures { λ r. ⌜ r ≡ registersOf depth cells revision ⌝ }
 {
     let sponge = Sponge {
         words: [0u64; 16],
@@ -34,6 +34,7 @@ fn registers(depth: usize, cells: usize) -> VMState
         digests: 0,
         sponge: sponge,
         halted: false,
+        revision: revision,
     }
 }
 
@@ -72,8 +73,9 @@ fn wipe(s: &mut [u64])
     clear(s, 0, n);
 }
 
-// RAM and output are looked at and stay. Refused, nothing lent is changed, and the state is zeros.
+// With a log of the revision chosen. RAM and output are looked at and stay. Refused, nothing lent is changed, and the state is zeros.
 pub fn open(
+    revision: u64,
     digest: [u64; 5],
     cells: usize,
     opcodes: &[u64],
@@ -88,11 +90,12 @@ pub fn open(
     values: &[u64],
     output: &[u64],
 ) -> Moved
-    ensures { λ r. ⌜ Opens digest (codeIn opcodes arguments public secret digests)
+    ensures { λ r. ⌜ Opens revision digest (codeIn opcodes arguments public secret digests)
         (memoryIn «op_stack» origins destinations addresses values output)
         cells r (memoryOut «op_stack» origins destinations addresses values output) ⌝ }
 {
     let n = check_open(
+        revision,
         digest,
         opcodes,
         arguments,
@@ -113,12 +116,12 @@ pub fn open(
         wipe(destinations);
         Moved {
             answer: Answer::Took,
-            state: registers(16, cells),
+            state: registers(16, cells, revision),
         }
     } else {
         Moved {
             answer: Answer::Refused(InstructionError::Numbered(n)),
-            state: registers(0, 0),
+            state: registers(0, 0, 0),
         }
     }
 }

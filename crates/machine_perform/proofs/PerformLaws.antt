@@ -6,7 +6,7 @@ use mathlib.Core.List.{List, [], _∷_, _++_}
 use Prim.Native.Nat.{ℕ, zero, suc, _+_, _-_, _*_, _≤_, _<_, min}
 use native.Mathlib.Omega.{arith}
 use borrow.Author.Tests.{ltb-true, ltb-false}
-use lib.ListN.{length, take, getD, set, length-append}
+use lib.ListN.{length, take, getD, set}
 use lib.Seq.{take-all}
 use lib.Dec.{ltb}
 use Rattle.tip5.specs.declared.sponge.Sponge.{Sponge}
@@ -21,7 +21,7 @@ use Rattle.machine_ram.specs.RamView.{Ordered, Room}
 use Rattle.machine.specs.Machine.{Memory, memory, Machine, ram}
 use Rattle.machine.specs.Effect.{Call, reset, tip5, u32, ramRead, ramWrite, stays, pushes, pops, SpongeChange, keeps, becomes, Effect}
 use Rattle.machine_effects.specs.EffectView.{u32sOf, accessesFrom, readsFrom, writesFrom, jumpOf, effectOf}
-use Rattle.machine_log.specs.Logged.{callBytes}
+use Rattle.machine_log.specs.Logged.{tip5Bytes, u32Bytes, callBytes}
 use Rattle.machine_hashing.specs.HashedView.{withSponge, hashedCalls, hashedEffect}
 use Rattle.machine.specs.Apply.{put, appliedStack, originsAfter, destinationsAfter, touched, pointerAfter, spongeAfter, performedAt, performed, limitsOf}
 use Rattle.machine_perform.specs.PerformView.{jumpWords, Fit, movedTo, Ready, Performed}
@@ -164,43 +164,27 @@ module _ (m : Machine) (h : Hashed) (e : Effect) where
 
 -- ---- what a sound machine and the facts of an effect give
 
-accesses-length : (f : ℕ → ℕ → Call) (a v : List ℕ) (i n : ℕ) → length (accessesFrom f a v i n) ≡ n
+sizes-append : (v : ℕ) (xs ys : List Call) → callSizes v (xs ++ ys) ≡ callSizes v xs + callSizes v ys
+sizes-append v [] ys = omega arith
+sizes-append v (x ∷ xs) ys = omega (arith, sizes-append v xs ys)
+
+reads-bytes : (v : ℕ) (a w : List ℕ) (i n : ℕ) → callSizes v (readsFrom a w i n) ≡ 25 * n
 unfolding accessesFrom
-accesses-length f a v i zero = refl
-accesses-length f a v i (suc n) = ap suc (accesses-length f a v (i + 1) n)
+reads-bytes v a w i zero = refl
+reads-bytes v a w i (suc n) = omega (arith, reads-bytes v a w (i + 1) n)
 
--- an effect has no more accesses of RAM than calls
-pub few-accesses : (e : Arrays) → e .reads + e .writes ≤ length (effectOf e .calls)
-unfolding effectOf
-few-accesses e =
-    simp (length-append, accesses-length ramRead (e .addresses) (e .values) 0 (e .reads), accesses-length ramWrite (e .addresses) (e .values) (e .reads) (e .writes)) (omega arith)
-
-sizes-append : (xs ys : List Call) → callSizes (xs ++ ys) ≡ callSizes xs + callSizes ys
-sizes-append [] ys = omega arith
-sizes-append (x ∷ xs) ys = omega (arith, sizes-append xs ys)
-
-reads-bytes : (a v : List ℕ) (i n : ℕ) → callSizes (readsFrom a v i n) ≡ 25 * n
+writes-bytes : (v : ℕ) (a w : List ℕ) (i n : ℕ) → callSizes v (writesFrom a w i n) ≡ 25 * n
 unfolding accessesFrom
-reads-bytes a v i zero = refl
-reads-bytes a v i (suc n) = omega (arith, reads-bytes a v (i + 1) n)
-
-writes-bytes : (a v : List ℕ) (i n : ℕ) → callSizes (writesFrom a v i n) ≡ 25 * n
-unfolding accessesFrom
-writes-bytes a v i zero = refl
-writes-bytes a v i (suc n) = omega (arith, writes-bytes a v (i + 1) n)
-
--- nor more than its calls have bytes for
-pub few-bytes : (e : Arrays) → 25 * (e .reads + e .writes) ≤ callSizes (effectOf e .calls)
-unfolding effectOf
-few-bytes e = simp sizes-append (omega (arith, reads-bytes (e .addresses) (e .values) 0 (e .reads), writes-bytes (e .addresses) (e .values) (e .reads) (e .writes)))
+writes-bytes v a w i zero = refl
+writes-bytes v a w i (suc n) = omega (arith, writes-bytes v a w (i + 1) n)
 
 -- of which a trace, or a reset, has its own
-pub hashed-bytes : (h : Hashed) (cs : List Call) → callSizes (hashedCalls h cs) ≡ cond (h .traces) 774 4 + callSizes cs
-hashed-bytes h cs = go (h .traces) (h .first)
+pub hashed-bytes : (v : ℕ) (h : Hashed) (cs : List Call) → callSizes v (hashedCalls h cs) ≡ cond (h .traces) (tip5Bytes v) 4 + callSizes v cs
+hashed-bytes v h cs = go (h .traces) (h .first)
   where
-    go : (x y : Bool) → callSizes (cond x (cond y (tip5 (h .opcode) (h .trace) ∷ cs) (cs ++ (tip5 (h .opcode) (h .trace) ∷ []))) (reset ∷ cs)) ≡ cond x 774 4 + callSizes cs
+    go : (x y : Bool) → callSizes v (cond x (cond y (tip5 (h .opcode) (h .trace) ∷ cs) (cs ++ (tip5 (h .opcode) (h .trace) ∷ []))) (reset ∷ cs)) ≡ cond x (tip5Bytes v) 4 + callSizes v cs
     go true true = refl
-    go true false = omega (arith, sizes-append cs (tip5 (h .opcode) (h .trace) ∷ []))
+    go true false = omega (arith, sizes-append v cs (tip5 (h .opcode) (h .trace) ∷ []))
     go false y = refl
 
 pub fit-of : (m : Machine) (e : Arrays) → Sound m → e .pops ≤ 16 → e .reads + e .writes ≤ 10 → Fit (m .state) e (m .memory)
@@ -250,14 +234,14 @@ ready-plain m e s f n l = ready-of m e keeps (effectOf e .calls) s f n l
 
 -- ---- the bytes of an effect's calls, exactly
 
-u32s-bytes : (n : ℕ) (a b : U32Call) → callSizes (u32sOf n a b) ≡ 22 * min n 2
+u32s-bytes : (v n : ℕ) (a b : U32Call) → callSizes v (u32sOf n a b) ≡ u32Bytes v * min n 2
 unfolding u32sOf
-u32s-bytes zero a b = refl
-u32s-bytes (suc zero) a b = refl
-u32s-bytes (suc (suc n)) a b = let e : min (suc (suc n)) 2 ≡ 2 = omega arith in rw e
+u32s-bytes v zero a b = omega arith
+u32s-bytes v (suc zero) a b = omega arith
+u32s-bytes v (suc (suc n)) a b = let e : min (suc (suc n)) 2 ≡ 2 = omega arith in rw e (omega arith)
 
-pub call-bytes : (e : Arrays) → callSizes (effectOf e .calls) ≡ callBytes e
+pub call-bytes : (v : ℕ) (e : Arrays) → callSizes v (effectOf e .calls) ≡ callBytes v e
 unfolding effectOf
-call-bytes e =
+call-bytes v e =
     simp sizes-append
-    (omega (arith, u32s-bytes (e .u32s) (e .«u32_0») (e .«u32_1»), reads-bytes (e .addresses) (e .values) 0 (e .reads), writes-bytes (e .addresses) (e .values) (e .reads) (e .writes)))
+    (omega (arith, u32s-bytes v (e .u32s) (e .«u32_0») (e .«u32_1»), reads-bytes v (e .addresses) (e .values) 0 (e .reads), writes-bytes v (e .addresses) (e .values) (e .reads) (e .writes)))

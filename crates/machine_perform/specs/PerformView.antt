@@ -98,6 +98,7 @@ movedTo s e q sponge n =
       digests = s .digests + e .digests;
       sponge = sponge;
       halted = e .halts;
+      revision = s .revision;
     }
 
 -- there is room for the effect

@@ -98,6 +98,7 @@ fn moved(state: VMState, effect: Effect, pointer: u64, sponge: Sponge, used: usi
         digests: state.digests + effect.digests,
         sponge: sponge,
         halted: effect.halts,
+        revision: state.revision,
     }
 }
 

@@ -9,7 +9,7 @@ ghost use Rattle.machine.specs.Words.{wordOf2, wordsOf};
 ghost use Rattle.machine.specs.Ram.{cells as cellsOf, cells1, cells2, cells5};
 ghost use Rattle.machine.specs.Machine.{machine, code};
 ghost use Rattle.machine.specs.Lent.{codeIn, memoryIn};
-ghost use Rattle.machine.specs.PlaceA.{longest, code1, memory1, code2, used2, code34, unused5, machineA, openA};
+ghost use Rattle.machine.specs.PlaceA.{longest, mostBytes, code1, memory1, code2, used2, code34, revision4, unused5, machineA, openA};
 use choices::numbers::above;
 use choices::numbers::differ;
 use choices::numbers::first;
@@ -88,11 +88,11 @@ fn memory_lengths(
     longer(deep, first(above(16, deep, 1), jumps))
 }
 
-// Step's call buffer, by its length.
-pub fn check_buffer(len: usize) -> u64
-    ensures { λ r. ⌜ r ≡ firstOf (aboveOf len longest 1) (aboveOf 1024 len 1) ⌝ }
+// Step's call buffer, by its length and the log's revision.
+pub fn check_buffer(revision: u64, len: usize) -> u64
+    ensures { λ r. ⌜ r ≡ firstOf (aboveOf len longest 1) (aboveOf (mostBytes revision) len 1) ⌝ }
 {
-    longer(len, above(1024, len, 1))
+    longer(len, above(instruction::most_bytes(revision), len, 1))
 }
 
 // 2 where one of the first n words is at or above p.
@@ -189,6 +189,17 @@ fn slot_faults(opcodes: &[u64], arguments: &[u64]) -> u64
         i += 1;
     }
     fault
+}
+
+// 4 where there is no such revision of the log.
+pub fn unknown_revision(revision: u64, rest: u64) -> u64
+    ensures { λ r. ⌜ r ≡ firstOf (revision4 revision) rest ⌝ }
+{
+    if revision == 1 {
+        rest
+    } else {
+        if revision == 2 { rest } else { 4 }
+    }
 }
 
 // 5 where a word at place n or behind it is not 0.
@@ -295,11 +306,13 @@ pub fn check_machine(
     }
     let unused = unused_places(state, op_stack, origins, destinations, addresses);
     let taken = inputs_taken(state, public, secret, digests, unused);
-    counts(state, op_stack, origins, output, taken)
+    let within = counts(state, op_stack, origins, output, taken);
+    unknown_revision(state.revision, within)
 }
 
 // Place A of open.
 pub fn check_open(
+    revision: u64,
     digest: [u64; 5],
     opcodes: &[u64],
     arguments: &[u64],
@@ -314,7 +327,7 @@ pub fn check_open(
     output: &[u64],
     cells: usize,
 ) -> u64
-    ensures { λ r. ⌜ r ≡ openA digest (codeIn opcodes arguments public secret digests)
+    ensures { λ r. ⌜ r ≡ openA revision digest (codeIn opcodes arguments public secret digests)
         (memoryIn «op_stack» origins destinations addresses values output) cells ⌝ }
 {
     let read = code_lengths(opcodes, arguments, public, secret, digests);
@@ -335,5 +348,5 @@ pub fn check_open(
     if 0 < slots {
         return slots;
     }
-    used_cells(addresses, cells)
+    unknown_revision(revision, used_cells(addresses, cells))
 }

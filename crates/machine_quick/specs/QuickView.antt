@@ -102,6 +102,7 @@ onwardAs s r halts =
       digests = s .digests;
       sponge = s .sponge;
       halted = halts;
+      revision = s .revision;
     }
 
 abbrev pub onwardTo : VMState → QuickStep → VMState

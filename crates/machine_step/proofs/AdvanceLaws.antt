@@ -1,7 +1,7 @@
 -- Laws of a step behind place A. Assumes nothing.
 use mathlib.Core.Path.{_≡_, refl, sym, ap, subst, _∙_}
 use mathlib.Core.Bool.{Bool, true, false, true≢false}
-use mathlib.Core.List.{List, [], _++_}
+use mathlib.Core.List.{List, _++_}
 use Prim.Native.Nat.{ℕ, _+_, _≤_, _<_}
 use native.Mathlib.Omega.{arith}
 use borrow.Author.Tests.{eqb-true}
@@ -16,8 +16,9 @@ use Rattle.machine_hashing.specs.declared.hashing.Hashed.{Hashed}
 use Rattle.machine_effects.specs.declared.effect.Verdict.{Verdict}
 use Rattle.machine_effects.specs.declared.effect.Verdict.the-variants.{Acts, Refuses, Drops}
 use Rattle.choices.specs.Choice.{cond}
+use Rattle.machine.specs.Lengths.{mostBytes}
 use Rattle.machine.specs.Refusal.{Refusal, refusalOf, plainly}
-use Rattle.machine.specs.Machine.{Code, Memory, memory, Machine, machine}
+use Rattle.machine.specs.Machine.{Memory, memory, Machine, machine}
 use Rattle.machine.specs.Instruction.{decode, sizeOf}
 use Rattle.machine.specs.Effect.{Call, onward, to, SpongeChange, keeps, becomes, Effect, acts}
 use Rattle.machine_effects.specs.EffectView.{callsOf, effectOf, verdictOf, decisionOf}
@@ -25,7 +26,7 @@ use Rattle.machine_hashing.specs.HashedView.{withSponge, hashedCalls, hashedEff
 use Rattle.machine.specs.Decide.{opcodeOf, argumentOf, decideOf}
 use Rattle.machine.specs.Apply.{Outcome, took, kept, lost, settled, performed, performedAt, dropped, limitsOf, stackAfter, depthAfter, pointerAfter, spongeAfter}
 use Rattle.machine.specs.Records.{Record, callRecords, stackRecords, recordsOf}
-use Rattle.machine_log.specs.Logged.{callBytes, LogRoom}
+use Rattle.machine_log.specs.Logged.{tip5Bytes, callBytes, LogRoom}
 use Rattle.machine.specs.Sound.{Sound}
 use Rattle.machine.proofs.Facts.{facts}
 use Rattle.machine.proofs.Preserved.{limits-fit}
@@ -38,7 +39,7 @@ use Rattle.machine_perform.specs.declared.answer.Answer.the-variants.{Took, Ref
 use Rattle.machine_perform.specs.declared.answer.Moved.{Moved}
 use Rattle.machine_perform.specs.PerformView.{Dropped}
 use Rattle.machine_step.specs.RecordsView.{askedOf, Roomy, Recorded}
-use Rattle.machine_perform.specs.AnswerView.{Answered, did, turned, answerIn, answeredBy, Gives, Settling, Settled}
+use Rattle.machine_perform.specs.AnswerView.{did, turned, answerIn, answeredBy, Gives, Settling, Settled}
 use Rattle.machine_step.specs.AdvanceView.{resolvedAt, Resolving, Resolved, Standing, StandingOn, Advanced}
 use Rattle.machine_decide.specs.DecideView.{actIn, hashes}
 use Rattle.machine_decide.specs.PlaceBView.{placeB}
@@ -80,26 +81,26 @@ asked-turned t (Refused x) r h = refl
 
 -- a step that is taken, and one that is not
 module _ {t : Bool} {m : Machine} {b b2 : List ℕ} {a : Answer} {x : VMState} {n : Memory} {k : ℕ} where
-  taken : (e : Effect) (y : Machine) → decideOf m ≡ acts e → settled m (acts e) ≡ took y → Gives m (took y) a (machine x (m .code) n) → Recorded t b b2 (recordsOf m e) k →
+  taken : (e : Effect) (y : Machine) → decideOf m ≡ acts e → settled m (acts e) ≡ took y → Gives m (took y) a (machine x (m .code) n) → Recorded t (m .state .revision) b b2 (recordsOf m e) k →
       Advanced t m b (record { answer = a; state = x; bytes = k }) n b2
   taken e y d h g r = record { gives = rw (d, h) g; bytes = rw (d, h) (r .bytes); buffer = rw (d, h) (r .buffer) }
 
-  refused : {rs : List Record} (o : Outcome) (z : Refusal) → answeredBy o ≡ turned z → settled m (decideOf m) ≡ o → Gives m o a (machine x (m .code) n) → Recorded false b b2 rs k →
+  refused : {rs : List Record} (o : Outcome) (z : Refusal) → answeredBy o ≡ turned z → settled m (decideOf m) ≡ o → Gives m o a (machine x (m .code) n) → Recorded false (m .state .revision) b b2 rs k →
       Advanced t m b (record { answer = a; state = x; bytes = k }) n b2
   refused (took y) z e h g r = let w : _≡_ {A = ℕ} 0 1 = cc in absurd (omega arith)
   refused (kept y) z e h g r = record { gives = rw h g; bytes = rw h (r .bytes); buffer = rw h (r .buffer) }
   refused (lost y w) z e h g r = record { gives = rw h g; bytes = rw h (r .bytes); buffer = rw h (r .buffer) }
 
-recorded-as : {t u : Bool} {b b2 : List ℕ} {rs us : List Record} {k : ℕ} → t ≡ u → rs ≡ us → Recorded t b b2 rs k → Recorded u b b2 us k
-recorded-as {t} {u} {b} {b2} {rs} {us} {k} e f r = subst (λ (x : Bool). Recorded x b b2 us k) e (subst (λ (x : List Record). Recorded t b b2 x k) f r)
+recorded-as : {t u : Bool} {v : ℕ} {b b2 : List ℕ} {rs us : List Record} {k : ℕ} → t ≡ u → rs ≡ us → Recorded t v b b2 rs k → Recorded u v b b2 us k
+recorded-as {t} {u} {v} {b} {b2} {rs} {us} {k} e f r = subst (λ (x : Bool). Recorded x v b b2 us k) e (subst (λ (x : List Record). Recorded t v b b2 x k) f r)
 
 -- the records that a step writes, by the stack after it alone
 abbrev written : Machine → List Call → List ℕ → ℕ → List Record
-written m cs stack after = callRecords (m .state .clock) cs ++ stackRecords (m .state .clock) stack stack (m .state .depth) after
+written m cs stack after = callRecords (m .state .revision) (m .state .clock) cs ++ stackRecords (m .state .clock) stack stack (m .state .depth) after
 
 module _ {t : Bool} {m : Machine} {b b2 : List ℕ} {a : Answer} {x : VMState} {n : Memory} {k : ℕ} {asked : Bool} {q : ℕ} {s : Sponge} (e : Effect) (c : SpongeChange) (cs : List Call)
     (limits : limitsOf m (withSponge e c cs) ≡ limitsOf m e) (performs : performed m (withSponge e c cs) ≡ performedAt m e q s)
-    (sound : Sound m) (isAsked : asked ≡ askedOf t a) (recorded : Recorded asked b b2 (written m cs (n .opStack) (x .depth)) k) where
+    (sound : Sound m) (isAsked : asked ≡ askedOf t a) (recorded : Recorded asked (m .state .revision) b b2 (written m cs (n .opStack) (x .depth)) k) where
   act-done : decideOf m ≡ acts (withSponge e c cs) → (z : Bool) → eqb (limitsOf m e) 0 ≡ z →
       Gives m (cond z (took (performedAt m e q s)) (kept (plainly (limitsOf m e)))) a (machine x (m .code) n) →
       settled m (acts (withSponge e c cs)) ≡ cond z (took (performedAt m e q s)) (kept (plainly (limitsOf m e))) →
@@ -137,10 +138,10 @@ module _ {m : Machine} (e : Arrays) (c : SpongeChange) (cs : List Call) (sound :
   pub resolving : (v : Verdict) → decideOf m ≡ verdictOf v (withSponge (effectOf e) c cs) → Resolving (m .state) v e (m .memory)
   resolving v d = record { deep = omega (arith, sound .deep); acting = λ h. settling (d ∙ ap (λ (w : Verdict). verdictOf w (withSponge (effectOf e) c cs)) h) }
 
-  module _ {t : Bool} {b : List ℕ} (a : Answer) {x : VMState} {n : Memory} {asked : Bool} (q : ℕ) (s : Sponge) (more : ℕ) (sizes : callSizes cs ≡ more + callBytes e)
-      (limits : limitsOf m (withSponge (effectOf e) c cs) ≡ limitsOf m (effectOf e)) (room : t ≡ true → 1024 ≤ length b) (isAsked : asked ≡ askedOf t a) where
+  module _ {t : Bool} {b : List ℕ} (a : Answer) {x : VMState} {n : Memory} {asked : Bool} (q : ℕ) (s : Sponge) (more : ℕ) (sizes : callSizes (m .state .revision) cs ≡ more + callBytes (m .state .revision) e)
+      (limits : limitsOf m (withSponge (effectOf e) c cs) ≡ limitsOf m (effectOf e)) (room : t ≡ true → mostBytes (m .state .revision) ≤ length b) (isAsked : asked ≡ askedOf t a) where
     log-room : decideOf m ≡ acts (withSponge (effectOf e) c cs) → limitsOf m (effectOf e) ≡ 0 → machine x (m .code) n ≡ performedAt m (effectOf e) q s → t ≡ true →
-        LogRoom more e (n .opStack) b (m .state .depth) (x .depth)
+        LogRoom (m .state .revision) more e (n .opStack) b (m .state .depth) (x .depth)
     log-room d z y h =
         let E = withSponge (effectOf e) c cs in
         let f = facts m sound E d in
@@ -161,11 +162,11 @@ module _ {m : Machine} (e : Arrays) (c : SpongeChange) (cs : List Call) (sound :
         })
 
     pub roomy : (v : Verdict) → decideOf m ≡ verdictOf v (withSponge (effectOf e) c cs) → Gives m (resolvedAt m v (effectOf e) q s) a (machine x (m .code) n) →
-        Roomy asked more e (n .opStack) b (m .state .depth) (x .depth)
+        Roomy asked (m .state .revision) more e (n .opStack) b (m .state .depth) (x .depth)
     roomy Acts d g = go (eqb (limitsOf m (effectOf e)) 0) refl g
       where
         go : (z : Bool) → eqb (limitsOf m (effectOf e)) 0 ≡ z → Gives m (cond z (took (performedAt m (effectOf e) q s)) (kept (plainly (limitsOf m (effectOf e))))) a (machine x (m .code) n) →
-            Roomy asked more e (n .opStack) b (m .state .depth) (x .depth)
+            Roomy asked (m .state .revision) more e (n .opStack) b (m .state .depth) (x .depth)
         go true z g = record { room = λ h. log-room d (eqb-true (limitsOf m (effectOf e)) 0 z) (g .left) (sym (isAsked ∙ asked-did t a (g .answer)) ∙ h) }
         go false z g = record { room = λ h. absurd (true≢false (sym h ∙ isAsked ∙ asked-turned t a (plainly (limitsOf m (effectOf e))) (g .answer))) }
     roomy (Refuses r) d g = record { room = λ h. absurd (true≢false (sym h ∙ isAsked ∙ asked-turned t a (refusalOf r) (g .answer))) }
@@ -178,7 +179,7 @@ pub record Way (m : Machine) (v : Verdict) (e : Arrays) (q : ℕ) (s : Sponge) (
   change : SpongeChange
   decides : decideOf m ≡ verdictOf v (withSponge (effectOf e) change cs)
   few : decideOf m ≡ acts (withSponge (effectOf e) change cs) → e .reads + e .writes ≤ 10
-  sizes : callSizes cs ≡ more + callBytes e
+  sizes : callSizes (m .state .revision) cs ≡ more + callBytes (m .state .revision) e
   limits : limitsOf m (withSponge (effectOf e) change cs) ≡ limitsOf m (effectOf e)
   performs : performed m (withSponge (effectOf e) change cs) ≡ performedAt m (effectOf e) q s
 
@@ -187,10 +188,10 @@ module _ {m : Machine} {v : Verdict} {e : Arrays} {q : ℕ} {s : Sponge} {cs : L
   way-resolving = resolving e (w .change) cs sound (w .few) v (w .decides)
 
   module _ {t : Bool} {b : List ℕ} (a : Answer) {x : VMState} {n : Memory} {asked : Bool} (isAsked : asked ≡ askedOf t a) (g : Gives m (resolvedAt m v (effectOf e) q s) a (machine x (m .code) n)) where
-    pub way-roomy : (t ≡ true → 1024 ≤ length b) → Roomy asked more e (n .opStack) b (m .state .depth) (x .depth)
+    pub way-roomy : (t ≡ true → mostBytes (m .state .revision) ≤ length b) → Roomy asked (m .state .revision) more e (n .opStack) b (m .state .depth) (x .depth)
     way-roomy room = roomy e (w .change) cs sound (w .few) a q s more (w .sizes) (w .limits) room isAsked v (w .decides) g
 
-    pub way-advanced : {b2 : List ℕ} {k : ℕ} → Recorded asked b b2 (written m cs (n .opStack) (x .depth)) k → Advanced t m b (record { answer = a; state = x; bytes = k }) n b2
+    pub way-advanced : {b2 : List ℕ} {k : ℕ} → Recorded asked (m .state .revision) b b2 (written m cs (n .opStack) (x .depth)) k → Advanced t m b (record { answer = a; state = x; bytes = k }) n b2
     way-advanced r = advanced-of (effectOf e) (w .change) cs (w .limits) (w .performs) sound isAsked r v (w .decides) g
 
 pub next-is : (m : Machine) (j : Bool) (k : ℕ) → pointerAfter m (cond j (to k) onward) ≡ cond j k (m .state .pointer + sizeOf (opcodeOf m))
@@ -214,9 +215,9 @@ plain-same : (e : Arrays) → withSponge (effectOf e) keeps (callsOf e) ≡ effe
 unfolding effectOf
 plain-same e = refl
 
-plain-sizes : (e : Arrays) → callSizes (callsOf e) ≡ 0 + callBytes e
+plain-sizes : (v : ℕ) (e : Arrays) → callSizes v (callsOf e) ≡ 0 + callBytes v e
 unfolding effectOf
-plain-sizes e = omega (arith, call-bytes e)
+plain-sizes v e = omega (arith, call-bytes v e)
 
 pub plain-way : {t : Bool} {m : Machine} {b : List ℕ} {q : ℕ} → StandingOn false t m b → (d : Decided) → decisionOf d ≡ actIn (decode (opcodeOf m)) (argumentOf m) m →
     q ≡ cond (d .effect .jumps) (d .effect .target) (m .state .pointer + sizeOf (opcodeOf m)) → Way m (d .verdict) (d .effect) q (m .state .sponge) (callsOf (d .effect)) 0
@@ -225,7 +226,7 @@ plain-way {t} {m} h d e k =
       change = keeps;
       decides = h .decides ∙ sym e ∙ decision-of d;
       few = λ a. plain-few m (h .standing .sound) (d .effect) (a ∙ ap acts (plain-same (d .effect)));
-      sizes = plain-sizes (d .effect);
+      sizes = plain-sizes (m .state .revision) (d .effect);
       limits = ap (limitsOf m) (plain-same (d .effect));
       performs = rw k (plain-performs m (d .effect));
     }
@@ -246,13 +247,13 @@ hash-performs m h = hashed-performs m h (effectOf (h .decided .effect)) ∙ rw (
 
 pub hash-way : {t : Bool} {m : Machine} {b : List ℕ} {q : ℕ} {s : Sponge} → StandingOn true t m b → (h : Hashed) → hashedOf h ≡ actIn (decode (opcodeOf m)) (argumentOf m) m →
     q ≡ cond (h .decided .effect .jumps) (h .decided .effect .target) (m .state .pointer + sizeOf (opcodeOf m)) → s ≡ cond (h .sponges) (h .sponge) (m .state .sponge) →
-    Way m (h .decided .verdict) (h .decided .effect) q s (hashedCalls h (callsOf (h .decided .effect))) (cond (h .traces) 774 4)
+    Way m (h .decided .verdict) (h .decided .effect) q s (hashedCalls h (callsOf (h .decided .effect))) (cond (h .traces) (tip5Bytes (m .state .revision)) 4)
 hash-way {t} {m} z h e k l =
     record {
       change = cond (h .sponges) (becomes (h .sponge)) keeps;
       decides = z .decides ∙ sym e ∙ hashed-of h;
       few = λ a. hashed-few m (z .standing .sound) h (a ∙ ap acts (hash-same h));
-      sizes = omega (arith, hashed-bytes h (callsOf (h .decided .effect)), plain-sizes (h .decided .effect));
+      sizes = omega (arith, hashed-bytes (m .state .revision) h (callsOf (h .decided .effect)), plain-sizes (m .state .revision) (h .decided .effect));
       limits = ap (limitsOf m) (hash-same h) ∙ hashed-limits m h (effectOf (h .decided .effect));
       performs = ap (performed m) (hash-same h) ∙ rw (k, l) (hash-performs m h);
     }

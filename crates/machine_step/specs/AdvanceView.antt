@@ -10,6 +10,7 @@ use Rattle.machine_effects.specs.declared.effect.Effect.{Effect as Arrays}
 use Rattle.machine_effects.specs.declared.effect.Verdict.{Verdict}
 use Rattle.machine_effects.specs.declared.effect.Verdict.the-variants.{Acts, Refuses, Drops}
 use Rattle.choices.specs.Choice.{cond}
+use Rattle.machine.specs.Lengths.{mostBytes}
 use Rattle.machine.specs.Refusal.{refusalOf}
 use Rattle.machine.specs.Instruction.{decode}
 use Rattle.machine.specs.Machine.{Code, Memory, Machine, machine}
@@ -45,7 +46,7 @@ pub record Resolved (s : VMState) (v : Verdict) (e : Arrays) (q : ℕ) (sponge :
 -- a sound machine, and room for a step's records where they are asked for
 pub record Standing (t : Bool) (m : Machine) (b : List ℕ) : Type 0 where
   pub sound : Sound m
-  pub room : t ≡ true → 1024 ≤ length b
+  pub room : t ≡ true → mostBytes (m .state .revision) ≤ length b
 
 -- it stands on a slot that place B lets pass, whose instruction hashes or does not
 pub record StandingOn (hashing t : Bool) (m : Machine) (b : List ℕ) : Type 0 where
@@ -56,7 +57,7 @@ pub record StandingOn (hashing t : Bool) (m : Machine) (b : List ℕ) : Type 0 w
 
 -- what a step with this decision gives, with its records or without
 abbrev pub advancedBy : Bool → Machine → List ℕ → Decision → StepGives
-advancedBy t m b d = steppedBy b (cond t (logBytes (recordsIn m d)) []) (settled m d)
+advancedBy t m b d = steppedBy b (cond t (logBytes (m .state .revision) (recordsIn m d)) []) (settled m d)
 
 -- answer, machine, bytes and buffer are those of a step from m
 pub record Advanced (t : Bool) (m : Machine) (b : List ℕ) (r : Stepped) (n : Memory) (b2 : List ℕ) : Type 0 where

@@ -136,6 +136,7 @@ fn advance_plain(
     let asked = records::asked(recording, answer);
     let n = records::plain(
         asked,
+        state.revision,
         state.clock,
         effect,
         op_stack,
@@ -200,6 +201,7 @@ fn advance_hashing(
     let asked = records::asked(recording, answer);
     let n = records::hashed(
         asked,
+        state.revision,
         state.clock,
         hashed,
         op_stack,

@@ -23,6 +23,7 @@ pub fn asked(recording: bool, answer: Answer) -> bool
 // `stack` is the op stack after the step, `depth` and `after` its depth before and after it.
 pub fn plain(
     asked: bool,
+    revision: u64,
     clock: u32,
     effect: Effect,
     stack: &[u64],
@@ -30,11 +31,11 @@ pub fn plain(
     after: usize,
     b: &mut [u8],
 ) -> usize
-    requires { ⌜ Roomy asked 0 effect (now stack) (now b) depth after ⌝ }
-    ensures { λ r. ⌜ Recorded asked (now (b .entry)) (now (b .exit)) (callRecords clock (callsOf effect) ++ stackRecords clock (now (stack .entry)) (now (stack .entry)) depth after) r ⌝ }
+    requires { ⌜ Roomy asked revision 0 effect (now stack) (now b) depth after ⌝ }
+    ensures { λ r. ⌜ Recorded asked revision (now (b .entry)) (now (b .exit)) (callRecords revision clock (callsOf effect) ++ stackRecords clock (now (stack .entry)) (now (stack .entry)) depth after) r ⌝ }
 {
     if asked {
-        calls::write_plain(b, clock, effect, stack, depth, after)
+        calls::write_plain(b, revision, clock, effect, stack, depth, after)
     } else {
         0
     }
@@ -42,6 +43,7 @@ pub fn plain(
 
 pub fn hashed(
     asked: bool,
+    revision: u64,
     clock: u32,
     hashed: Hashed,
     stack: &[u64],
@@ -49,8 +51,8 @@ pub fn hashed(
     after: usize,
     b: &mut [u8],
 ) -> usize
-    requires { ⌜ RoomyHashed asked hashed (now stack) (now b) depth after ⌝ }
-    ensures { λ r. ⌜ Recorded asked (now (b .entry)) (now (b .exit)) (callRecords clock (hashedCalls hashed (callsOf (hashed .decided .effect))) ++ stackRecords clock (now (stack .entry)) (now (stack .entry)) depth after) r ⌝ }
+    requires { ⌜ RoomyHashed asked revision hashed (now stack) (now b) depth after ⌝ }
+    ensures { λ r. ⌜ Recorded asked revision (now (b .entry)) (now (b .exit)) (callRecords revision clock (hashedCalls hashed (callsOf (hashed .decided .effect))) ++ stackRecords clock (now (stack .entry)) (now (stack .entry)) depth after) r ⌝ }
 {
     let decided = hashed.decided;
     let effect = decided.effect;
@@ -59,12 +61,32 @@ pub fn hashed(
     if asked {
         if hashed.traces {
             if hashed.first {
-                calls::write_hashed(b, clock, opcode, &trace, effect, stack, depth, after)
+                calls::write_hashed(
+                    b,
+                    revision,
+                    clock,
+                    opcode,
+                    &trace,
+                    effect,
+                    stack,
+                    depth,
+                    after,
+                )
             } else {
-                calls::write_read_hashed(b, clock, opcode, &trace, effect, stack, depth, after)
+                calls::write_read_hashed(
+                    b,
+                    revision,
+                    clock,
+                    opcode,
+                    &trace,
+                    effect,
+                    stack,
+                    depth,
+                    after,
+                )
             }
         } else {
-            calls::write_reset(b, clock, effect, stack, depth, after)
+            calls::write_reset(b, revision, clock, effect, stack, depth, after)
         }
     } else {
         0

@@ -16,11 +16,12 @@ use Rattle.machine.specs.Decide.{decideOf}
 use Rattle.machine.specs.Apply.{Outcome, took, kept, lost, settled}
 use Rattle.machine.specs.Records.{logBytes, stackRecords}
 use Rattle.machine.specs.Step.{recordsIn, steppedBy, outcomeBy}
+use Rattle.machine.specs.Lengths.{mostBytes}
 use Rattle.machine.specs.Path.{Ending, halted, spent, refused, Path, path, count, stays, onward, Space, tooLittle, behind, stepLog, pathBy, logFrom}
 use Rattle.machine.specs.Sound.{Sound}
 use Rattle.machine.proofs.Facts.{facts}
 use Rattle.machine.proofs.Records.{log-append}
-use Rattle.machine.proofs.Step.{Took as TookBy, step-took, step-sound}
+use Rattle.machine.proofs.Step.{Took as TookBy, step-took, step-sound, step-revision}
 use Rattle.machine.proofs.StepBytes.{stack-records-length, step-few}
 use Rattle.machine.proofs.Path.{path-halted, path-full, path-on}
 use Rattle.machine_log.specs.Logged.{logged}
@@ -36,14 +37,17 @@ use Rattle.machine_steps.specs.declared.answer.Ending.{Ending as EndingI
 use Rattle.machine_steps.specs.declared.answer.Ending.the-variants as E
 use Rattle.machine_steps.specs.declared.answer.Ran.{Ran}
 use Rattle.machine_steps.specs.RanView.{endingIn, endOf, RanAs}
-use Rattle.machine_steps.specs.StepsView.{spaceOf, ownLog, logOf, StandingAt, logIn, AdvancedAt}
+use Rattle.machine_steps.specs.StepsView.{spaceOf, fullOf, ownLog, logOf, StandingAt, logIn, AdvancedAt}
 
 -- ---- the log
 
-pub log-more : (t : Bool) (m x : Machine) (ms : List Machine) → logOf t m (x ∷ ms) ≡ ownLog t m ++ logOf t x ms
+-- a step from m to x, whose log is of the same revision
+pub log-more : (t : Bool) (m x : Machine) (ms : List Machine) → outcomeBy decideOf m ≡ took x → logOf t m (x ∷ ms) ≡ ownLog t m ++ logOf t x ms
 unfolding logFrom stepLog
-log-more true m x ms = log-append (recordsIn m (decideOf m)) (logFrom decideOf x ms)
-log-more false m x ms = refl
+log-more true m x ms e =
+    log-append (m .state .revision) (recordsIn m (decideOf m)) (logFrom decideOf x ms)
+    ∙ ap (λ (v : ℕ). logBytes (m .state .revision) (recordsIn m (decideOf m)) ++ logBytes v (logFrom decideOf x ms)) (sym (step-revision decideOf m x e))
+log-more false m x ms e = refl
 
 log-none : (t : Bool) (m : Machine) → logOf t m [] ≡ []
 unfolding logFrom logBytes
@@ -67,7 +71,7 @@ advanced-outcome {t} {m} {b} {b2} {r} {n} a = go (settled m (decideOf m)) refl
 
 advanced-log : (t : Bool) (m : Machine) (b : List ℕ) → (advancedBy t m b (decideOf m) .bytes ≡ length (logIn (ownLog t m) (outcomeBy decideOf m))) × (advancedBy t m b (decideOf m) .buffer ≡ logged b 0 (logIn (ownLog t m) (outcomeBy decideOf m)))
 unfolding outcomeBy stepLog
-advanced-log t m b = go (cond t (logBytes (recordsIn m (decideOf m))) []) (settled m (decideOf m))
+advanced-log t m b = go (cond t (logBytes (m .state .revision) (recordsIn m (decideOf m))) []) (settled m (decideOf m))
   where
     go : (own : List ℕ) (o : Outcome) → (steppedBy b own o .bytes ≡ length (logIn own o)) × (steppedBy b own o .buffer ≡ logged b 0 (logIn own o))
     go own (took x) = (refl, sym (logged-front b own))
@@ -108,7 +112,9 @@ path-none s m = go (m .state .halted)
     go false = refl
 
 -- after k of a budget's steps from m0 the machine is m and the log b, and what is left makes the whole path
-pub record Going (t : Bool) (budget : ℕ) (b0 : List ℕ) (m0 m : Machine) (k at : ℕ) (b : List ℕ) : Type 0 where
+pub record Going (t : Bool) (budget most : ℕ) (b0 : List ℕ) (m0 m : Machine) (k at : ℕ) (b : List ℕ) : Type 0 where
+  -- the most bytes that a step writes: no step changes the revision
+  pub most-is : most ≡ mostBytes (m .state .revision)
   pub few : k ≤ budget
   pub sound : Sound m
   pub done : List Machine
@@ -120,33 +126,38 @@ pub record Going (t : Bool) (budget : ℕ) (b0 : List ℕ) (m0 m : Machine) (k a
   pub logs : (ms : List Machine) → logOf t m0 (done ++ ms) ≡ log ++ logOf t m ms
   pub is : ahead done (pathBy decideOf (spaceOf t (length b0 - at)) (budget - k) m) ≡ whole t budget b0 m0
 
-pub steps-start : (t : Bool) (budget : ℕ) (b : List ℕ) (m : Machine) → Sound m → Going t budget b m m 0 0 b
-steps-start t budget b m s =
+pub steps-start : (t : Bool) (budget most : ℕ) (b : List ℕ) (m : Machine) → most ≡ mostBytes (m .state .revision) → Sound m → Going t budget most b m m 0 0 b
+steps-start t budget most b m q s =
     let e : budget - 0 ≡ budget = omega arith in
     let h : length b - 0 ≡ length b = omega arith in
-    record { few = omega arith; sound = s; done = []; counted = refl; log = []; place = refl; fits = omega arith; buffer = logged-none b 0; logs = λ ms. refl; is = rw (e, h) }
+    record { most-is = q; few = omega arith; sound = s; done = []; counted = refl; log = []; place = refl; fits = omega arith; buffer = logged-none b 0; logs = λ ms. refl; is = rw (e, h) }
 
-took-log : (m x : Machine) → Sound m → outcomeBy decideOf m ≡ took x → length (stepLog decideOf m) ≤ 1024
+took-log : (m x : Machine) → Sound m → outcomeBy decideOf m ≡ took x → length (stepLog decideOf m) ≤ mostBytes (m .state .revision)
 unfolding stepLog
 took-log m x s h = of (step-took decideOf m x h)
   where
-    of : TookBy m (decideOf m) x → length (logBytes (recordsIn m (decideOf m))) ≤ 1024
+    of : TookBy m (decideOf m) x → length (logBytes (m .state .revision) (recordsIn m (decideOf m))) ≤ mostBytes (m .state .revision)
     of k = rw (k .acting) (step-few m s (k .effect) (k .acting))
 
 -- a log that is not full has room for what a step writes
-own-fits : (t : Bool) (m : Machine) (room : ℕ) → length (stepLog decideOf m) ≤ 1024 → tooLittle (spaceOf t room) ≡ false → length (ownLog t m) ≤ room
-own-fits true m room h l = let k = ltb-false room 1024 l in omega arith
-own-fits false m room h l = zero-le
+own-fits : (t : Bool) (m : Machine) (room most : ℕ) → length (stepLog decideOf m) ≤ most → fullOf t room most ≡ false → length (ownLog t m) ≤ room
+own-fits true m room most h l = let k = ltb-false room most l in omega arith
+own-fits false m room most h l = zero-le
+
+-- full, as a path has it
+full-is : (t : Bool) (v room most : ℕ) → most ≡ mostBytes v → fullOf t room most ≡ tooLittle v (spaceOf t room)
+full-is true v room most e = ap (ltb room) e
+full-is false v room most e = refl
 
 logged-length : (b r : List ℕ) → length r ≤ length b → length (logged b 0 r) ≡ length b
 logged-length b r h = ap length (logged-front b r) ∙ simp (length-append, length-drop) (omega arith)
 
 -- a step's stack records, as what it writes
-moved-log : (t : Bool) (m : Machine) (r : QuickStep) (w2 : List ℕ) → StepsTo m r w2 → cond t (logBytes (stackRecords (m .state .clock) w2 w2 (m .state .depth) (r .depth))) [] ≡ ownLog t m
+moved-log : (t : Bool) (m : Machine) (r : QuickStep) (w2 : List ℕ) → StepsTo m r w2 → cond t (logBytes (m .state .revision) (stackRecords (m .state .clock) w2 w2 (m .state .depth) (r .depth))) [] ≡ ownLog t m
 unfolding stepLog
 moved-log t m r w2 s = rw (s .records)
 
-module _ {t : Bool} {budget : ℕ} {b0 : List ℕ} {m0 m : Machine} {k at : ℕ} {b : List ℕ} (s : Going t budget b0 m0 m k at b) where
+module _ {t : Bool} {budget most : ℕ} {b0 : List ℕ} {m0 m : Machine} {k at : ℕ} {b : List ℕ} (s : Going t budget most b0 m0 m k at b) where
   pub steps-length : length b ≡ length b0
   steps-length = ap length (s .buffer) ∙ logged-length b0 (s .log) (s .fits)
 
@@ -178,10 +189,13 @@ module _ {t : Bool} {budget : ℕ} {b0 : List ℕ} {m0 m : Machine} {k at : ℕ}
   stayed : (e : EndingIn) → pathBy decideOf (spaceOf t (length b0 - at)) (budget - k) m ≡ stays (endingIn e) m → Ended t budget b0 m0 (m .code) (record { count = k; ending = e; state = m .state; bytes = at }) (m .memory) b
   stayed e h = ended e (m .state) (m .memory) b m false (ap (ahead (s .done)) (sym h) ∙ s .is) refl refl
 
-  pub steps-fill : k < budget → m .state .halted ≡ false → tooLittle (spaceOf t (length b - at)) ≡ true → Ended t budget b0 m0 (m .code) (record { count = k; ending = E.Full; state = m .state; bytes = at }) (m .memory) b
+  path-full-is : fullOf t (length b - at) most ≡ tooLittle (m .state .revision) (spaceOf t (length b0 - at))
+  path-full-is = ap (λ (i : ℕ). fullOf t (i - at) most) steps-length ∙ full-is t (m .state .revision) (length b0 - at) most (s .most-is)
+
+  pub steps-fill : k < budget → m .state .halted ≡ false → fullOf t (length b - at) most ≡ true → Ended t budget b0 m0 (m .code) (record { count = k; ending = E.Full; state = m .state; bytes = at }) (m .memory) b
   steps-fill h on l =
       let e : budget - k ≡ suc (budget - (k + 1)) = omega arith in
-      let r : tooLittle (spaceOf t (length b0 - at)) ≡ true = rw (← steps-length) l in
+      let r : tooLittle (m .state .revision) (spaceOf t (length b0 - at)) ≡ true = sym path-full-is ∙ l in
       stayed E.Full (ap (λ (i : ℕ). pathBy decideOf (spaceOf t (length b0 - at)) i m) e ∙ path-full decideOf (spaceOf t (length b0 - at)) (budget - (k + 1)) m on r)
 
   pub steps-halt : {e : EndingIn} → e ≡ endOf (m .state .halted) → m .state .halted ≡ true → Ended t budget b0 m0 (m .code) (record { count = k; ending = e; state = m .state; bytes = at }) (m .memory) b
@@ -192,34 +206,35 @@ module _ {t : Bool} {budget : ℕ} {b0 : List ℕ} {m0 m : Machine} {k at : ℕ}
       let z : budget - k ≡ 0 = omega arith in
       stayed e (ap (λ (i : ℕ). pathBy decideOf (spaceOf t (length b0 - at)) i m) z ∙ path-none (spaceOf t (length b0 - at)) m ∙ ap (λ (i : EndingIn). stays (endingIn i) m) (sym is))
 
-  module _ (h : k < budget) (on : m .state .halted ≡ false) (roomy : tooLittle (spaceOf t (length b - at)) ≡ false) where
+  module _ (h : k < budget) (on : m .state .halted ≡ false) (roomy : fullOf t (length b - at) most ≡ false) where
     next : (o : Outcome) → outcomeBy decideOf m ≡ o → ahead (s .done) (onward m (λ x. pathBy decideOf (spaceOf t (length b0 - at - length (ownLog t m))) (budget - (k + 1)) x) o) ≡ whole t budget b0 m0
     next o e =
         let u : budget - k ≡ suc (budget - (k + 1)) = omega arith in
-        let l : tooLittle (spaceOf t (length b0 - at)) ≡ false = rw (← steps-length) roomy in
+        let l : tooLittle (m .state .revision) (spaceOf t (length b0 - at)) ≡ false = sym path-full-is ∙ roomy in
         ap (λ (r : Space). ahead (s .done) (onward m (λ x. pathBy decideOf r (budget - (k + 1)) x) o)) (sym (space-behind t (length b0 - at) m))
         ∙ ap (ahead (s .done)) (sym (path-on decideOf (spaceOf t (length b0 - at)) (budget - (k + 1)) m o on l e))
         ∙ ap (λ (i : ℕ). ahead (s .done) (pathBy decideOf (spaceOf t (length b0 - at)) i m)) (sym u)
         ∙ s .is
 
-    room-in : t ≡ true → at + 1024 ≤ length b
+    room-in : t ≡ true → at + mostBytes (m .state .revision) ≤ length b
     room-in y =
-        let z : ltb (length b - at) 1024 ≡ false = rw y at roomy in
-        let u = ltb-false (length b - at) 1024 z in
-        omega (arith, u, steps-within)
+        let z : ltb (length b - at) most ≡ false = rw y at roomy in
+        let u = ltb-false (length b - at) most z in
+        omega (arith, u, steps-within, s .most-is)
 
     pub steps-stand : StandingAt t m b at
     steps-stand = record { sound = s .sound; within = steps-within; room = room-in }
 
     -- the step is taken
-    steps-go-on : {x : Machine} {next-at : ℕ} {b2 : List ℕ} → outcomeBy decideOf m ≡ took x → next-at ≡ at + length (ownLog t m) → b2 ≡ logged b at (ownLog t m) → Going t budget b0 m0 x (k + 1) next-at b2
+    steps-go-on : {x : Machine} {next-at : ℕ} {b2 : List ℕ} → outcomeBy decideOf m ≡ took x → next-at ≡ at + length (ownLog t m) → b2 ≡ logged b at (ownLog t m) → Going t budget most b0 m0 x (k + 1) next-at b2
     steps-go-on {x} {next-at} {b2} e q w =
-        let small = own-fits t m (length b - at) (took-log m x (s .sound) e) roomy in
+        let small = own-fits t m (length b - at) most (rw (s .most-is) (took-log m x (s .sound) e)) roomy in
         let lens : length (s .log ++ ownLog t m) ≡ length (s .log) + length (ownLog t m) = length-append (s .log) (ownLog t m) in
         let more : length (s .done ++ (x ∷ [])) ≡ length (s .done) + 1 = length-append (s .done) (x ∷ []) in
         let rest : length b0 - at - length (ownLog t m) ≡ length b0 - next-at = omega (arith, q) in
         let p = pathBy decideOf (spaceOf t (length b0 - next-at)) (budget - (k + 1)) x in
         record {
+          most-is = s .most-is ∙ ap mostBytes (sym (step-revision decideOf m x e));
           few = omega arith;
           sound = step-sound decideOf facts m x (s .sound) e;
           done = s .done ++ (x ∷ []);
@@ -231,7 +246,7 @@ module _ {t : Bool} {budget : ℕ} {b0 : List ℕ} {m0 m : Machine} {k at : ℕ}
           logs = λ ms.
               ap (logOf t m0) (append-assoc (s .done) (x ∷ []) ms)
               ∙ s .logs (x ∷ ms)
-              ∙ ap (λ (i : List ℕ). s .log ++ i) (log-more t m x ms)
+              ∙ ap (λ (i : List ℕ). s .log ++ i) (log-more t m x ms e)
               ∙ sym (append-assoc (s .log) (ownLog t m) (logOf t x ms));
           is =
               ap (λ (i : List Machine). path i (p .left) (p .dropped) (p .ending)) (append-assoc (s .done) (x ∷ []) (p .machines))
@@ -239,16 +254,16 @@ module _ {t : Bool} {budget : ℕ} {b0 : List ℕ} {m0 m : Machine} {k at : ℕ}
               ∙ next (took x) e;
         }
 
-    pub steps-go : {r : Stepped} {n : Memory} {b2 : List ℕ} → r .answer ≡ Took → AdvancedAt t m b at r n b2 → Going t budget b0 m0 (machine (r .state) (m .code) n) (k + 1) (at + r .bytes) b2
+    pub steps-go : {r : Stepped} {n : Memory} {b2 : List ℕ} → r .answer ≡ Took → AdvancedAt t m b at r n b2 → Going t budget most b0 m0 (machine (r .state) (m .code) n) (k + 1) (at + r .bytes) b2
     steps-go {r} {n} {b2} a y = go (outcomeBy decideOf m) refl
       where
         did-take : answerIn (r .answer) ≡ did
         did-take = ap answerIn a
 
-        go : (o : Outcome) → outcomeBy decideOf m ≡ o → Going t budget b0 m0 (machine (r .state) (m .code) n) (k + 1) (at + r .bytes) b2
+        go : (o : Outcome) → outcomeBy decideOf m ≡ o → Going t budget most b0 m0 (machine (r .state) (m .code) n) (k + 1) (at + r .bytes) b2
         go (took z) e =
             let w : machine (r .state) (m .code) n ≡ z = rw e at (y .gives .left) in
-            subst (λ (x : Machine). Going t budget b0 m0 x (k + 1) (at + r .bytes) b2) (sym w) (steps-go-on e (ap (λ (i : ℕ). at + i) (rw e at (y .bytes))) (rw e at (y .buffer)))
+            subst (λ (x : Machine). Going t budget most b0 m0 x (k + 1) (at + r .bytes) b2) (sym w) (steps-go-on e (ap (λ (i : ℕ). at + i) (rw e at (y .bytes))) (rw e at (y .buffer)))
         go (kept z) e = let u = sym did-take ∙ (rw e at (y .gives .answer)) in let v : _≡_ {A = ℕ} 0 1 = cc in absurd (omega arith)
         go (lost z w) e = let u = sym did-take ∙ (rw e at (y .gives .answer)) in let v : _≡_ {A = ℕ} 0 1 = cc in absurd (omega arith)
 
@@ -259,17 +274,17 @@ module _ {t : Bool} {budget : ℕ} {b0 : List ℕ} {m0 m : Machine} {k at : ℕ}
       quick-room len =
           let x = step-sound decideOf facts m _ (s .sound) (y .outcome) in
           let small = rw (y .records) at (took-log m _ (s .sound) (y .outcome)) in
-          let size = stack-records-length (m .state .clock) w2 w2 (m .state .depth) (r .depth) in
+          let size = stack-records-length (m .state .revision) (m .state .clock) w2 w2 (m .state .depth) (r .depth) in
           record {
             deep = λ _. record { low = s .sound .deep; low2 = x .deep; high = omega (arith, len, s .sound .opStack .used); high2 = x .opStack .used };
             room = λ z. omega (arith, size, small, room-in z);
           }
 
       pub steps-quick : {next-at : ℕ} {b2 : List ℕ} → RecordedAt t b b2 at (stackRecords (m .state .clock) w2 w2 (m .state .depth) (r .depth)) next-at →
-          Going t budget b0 m0 (machine (onwardTo (m .state) r) (m .code) (memory w2 (m .memory .origins) (m .memory .destinations) (m .memory .addresses) (m .memory .values) (m .memory .output))) (k + 1) next-at b2
+          Going t budget most b0 m0 (machine (onwardTo (m .state) r) (m .code) (memory w2 (m .memory .origins) (m .memory .destinations) (m .memory .addresses) (m .memory .values) (m .memory .output))) (k + 1) next-at b2
       steps-quick z =
           let l = moved-log t m r w2 y in
-          steps-go-on (y .outcome) (z .place ∙ ap (λ (i : List ℕ). at + length i) l) (z .buffer ∙ ap (logged b at) l)
+          steps-go-on (y .outcome) (z .place (m .state .revision) ∙ ap (λ (i : List ℕ). at + length i) l) (z .buffer (m .state .revision) ∙ ap (logged b at) l)
 
     -- a refused step ends it, with the log as it was
     pub steps-stop : {r : Stepped} {n : Memory} {b2 : List ℕ} {w : InstructionError} → r .answer ≡ Refused w → AdvancedAt t m b at r n b2 →
@@ -291,6 +306,6 @@ module _ {t : Bool} {budget : ℕ} {b0 : List ℕ} {m0 m : Machine} {k at : ℕ}
         go (lost z x) e = ending x true z (sym did-turn ∙ (rw e at (y .gives .answer))) (rw e at (y .gives .left)) (rw e at (y .buffer)) (next (lost z x) e)
 
 -- the op stack as it was
-pub steps-kept : {t : Bool} {budget : ℕ} {b0 : List ℕ} {m0 : Machine} {c : Code} {stack after from to a v o : List ℕ} {k at : ℕ} {b : List ℕ} {s : _} → after ≡ stack →
-    Going t budget b0 m0 (machine s c (memory stack from to a v o)) k at b → Going t budget b0 m0 (machine s c (memory after from to a v o)) k at b
-steps-kept {t} {budget} {b0} {m0} {c} {stack} {after} {from} {to} {a} {v} {o} {k} {at} {b} {s} e r = subst (λ (x : List ℕ). Going t budget b0 m0 (machine s c (memory x from to a v o)) k at b) (sym e) r
+pub steps-kept : {t : Bool} {budget most : ℕ} {b0 : List ℕ} {m0 : Machine} {c : Code} {stack after from to a v o : List ℕ} {k at : ℕ} {b : List ℕ} {s : _} → after ≡ stack →
+    Going t budget most b0 m0 (machine s c (memory stack from to a v o)) k at b → Going t budget most b0 m0 (machine s c (memory after from to a v o)) k at b
+steps-kept {t} {budget} {most} {b0} {m0} {c} {stack} {after} {from} {to} {a} {v} {o} {k} {at} {b} {s} e r = subst (λ (x : List ℕ). Going t budget most b0 m0 (machine s c (memory x from to a v o)) k at b) (sym e) r

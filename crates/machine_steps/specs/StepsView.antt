@@ -1,9 +1,10 @@
 -- Steps behind place A, with their records in a lent log or without: what the code of run and of trace_execution share.
 use Prim.Native.Nat.{ℕ, _+_, _≤_}
 use mathlib.Core.Path.{_≡_}
-use mathlib.Core.Bool.{Bool, true}
+use mathlib.Core.Bool.{Bool, true, false}
 use mathlib.Core.List.{List, []}
 use lib.ListN.{length}
+use lib.Dec.{ltb}
 use Rattle.choices.specs.Choice.{cond}
 use Rattle.machine.specs.Machine.{Memory, Machine, machine}
 use Rattle.machine.specs.Decide.{decideOf}
@@ -11,7 +12,7 @@ use Rattle.machine.specs.Apply.{Outcome, took, kept, lost}
 use Rattle.machine.specs.Records.{logBytes}
 use Rattle.machine.specs.Step.{outcomeBy}
 use Rattle.machine.specs.Path.{Space, unlogged, bytes, stepLog, pathBy, logFrom}
-use Rattle.machine.specs.PlaceA.{longest, mostOfStep}
+use Rattle.machine.specs.PlaceA.{longest, mostBytes}
 use Rattle.machine.specs.Sound.{Sound}
 use Rattle.machine_log.specs.Logged.{logged}
 use Rattle.machine_perform.specs.declared.answer.Stepped.{Stepped}
@@ -24,13 +25,17 @@ use Rattle.machine_steps.specs.RanView.{RanAs}
 abbrev pub spaceOf : Bool → ℕ → Space
 spaceOf t room = cond t (bytes room) unlogged
 
+-- whether a log with so many bytes left is full, where a step may write so many
+abbrev pub fullOf : Bool → ℕ → ℕ → Bool
+fullOf t left most = cond t (ltb left most) false
+
 -- what a step from m writes where it is taken
 abbrev pub ownLog : Bool → Machine → List ℕ
 ownLog t m = cond t (stepLog decideOf m) []
 
 -- what the steps from m through the machines write
 abbrev pub logOf : Bool → Machine → List Machine → List ℕ
-logOf t m ms = cond t (logBytes (logFrom decideOf m ms)) []
+logOf t m ms = cond t (logBytes (m .state .revision) (logFrom decideOf m ms)) []
 
 -- ---- one step behind place `at` of the log
 
@@ -38,7 +43,7 @@ logOf t m ms = cond t (logBytes (logFrom decideOf m ms)) []
 pub record StandingAt (t : Bool) (m : Machine) (b : List ℕ) (at : ℕ) : Type 0 where
   pub sound : Sound m
   pub within : at ≤ length b
-  pub room : t ≡ true → at + mostOfStep ≤ length b
+  pub room : t ≡ true → at + mostBytes (m .state .revision) ≤ length b
 
 -- what a step that is taken writes, and one that is not
 abbrev pub logIn : List ℕ → Outcome → List ℕ

@@ -2,12 +2,12 @@
 ghost use mathlib.Core.Path.{_≡_};
 ghost use Rattle.machine.specs.Machine.{machine};
 ghost use Rattle.machine.specs.Lent.{codeAt, memoryAt, codeIn, memoryIn, memoryOut};
-ghost use Rattle.machine.specs.Path.{tooLittle};
 ghost use Rattle.machine_steps.specs.RanView.{endOf};
-ghost use Rattle.machine_steps.specs.StepsView.{spaceOf, StandingAt, AdvancedAt, StandingIn, StepsOn};
+ghost use Rattle.machine_steps.specs.StepsView.{fullOf, StandingAt, AdvancedAt, StandingIn, StepsOn};
 use crate::answer::Ending;
 use crate::answer::Ran;
 use machine::state::VMState;
+use machine_isa::instruction::most_bytes;
 use machine_perform::answer::Answer;
 use machine_perform::answer::Stepped;
 use machine_quick::quick::quick;
@@ -25,11 +25,11 @@ fn end(halted: bool) -> Ending
     }
 }
 
-// Whether a log with so many bytes left is full. Where no records are asked for it never is.
-fn full(recording: bool, left: usize) -> bool
-    ensures { λ r. ⌜ r ≡ tooLittle (spaceOf recording left) ⌝ }
+// Whether a log with so many bytes left is full, where a step may write `most`. Where no records are asked for it never is.
+fn full(recording: bool, left: usize, most: usize) -> bool
+    ensures { λ r. ⌜ r ≡ fullOf recording left most ⌝ }
 {
-    if recording { left < 1024 } else { false }
+    if recording { left < most } else { false }
 }
 
 // One step, its records behind place `at` of the log.
@@ -98,6 +98,7 @@ pub fn steps(
         (memoryIn «op_stack» origins destinations addresses values output)) (now (b .entry)) r
         (memoryOut «op_stack» origins destinations addresses values output) (now (b .exit)) ⌝ }
 {
+    let most = most_bytes(state.revision);
     let mut now = state;
     let mut count: u64 = 0;
     let mut at: usize = 0;
@@ -105,7 +106,7 @@ pub fn steps(
         if now.halted {
             break;
         }
-        if full(recording, b.len() - at) {
+        if full(recording, b.len() - at, most) {
             return Ran {
                 count: count,
                 ending: Ending::Full,

@@ -56,16 +56,16 @@ pub trace-number : (m : Machine) (b : List ℕ) {s k n : ℕ} → s ≡ aboveOf 
 unfolding traceA
 trace-number m b e f g = g ∙ rw (e, f)
 
-log-none : (m : Machine) → logBytes (logFrom decideOf m []) ≡ []
+log-none : (m : Machine) → logBytes (m .state .revision) (logFrom decideOf m []) ≡ []
 unfolding logFrom logBytes
 log-none m = refl
 
 module _ (budget : ℕ) (m : Machine) (b : List ℕ) where
   pub trace-accepted : {r : Ran} {n : Memory} {b2 : List ℕ} → traceA m b ≡ 0 → StepsOn true budget m b r n b2 → Traces budget m b r n b2
-  trace-accepted {r} {n} {b2} z h = subst (λ (p : Path). RanAs p (logBytes (logFrom decideOf m (p .machines))) (m .code) b r n b2) (sym (trace-is decideOf budget m b z)) h
+  trace-accepted {r} {n} {b2} z h = subst (λ (p : Path). RanAs p (logBytes (m .state .revision) (logFrom decideOf m (p .machines))) (m .code) b r n b2) (sym (trace-is decideOf budget m b z)) h
 
   pub trace-turned : {n : ℕ} → n ≡ traceA m b → (n ≡ 0 → ⊥) → Traces budget m b (turnedDown m n) (m .memory) b
   trace-turned {n} e z =
-      subst (λ (p : Path). RanAs p (logBytes (logFrom decideOf m (p .machines))) (m .code) b (turnedDown m n) (m .memory) b)
+      subst (λ (p : Path). RanAs p (logBytes (m .state .revision) (logFrom decideOf m (p .machines))) (m .code) b (turnedDown m n) (m .memory) b)
       (ap (λ (i : ℕ). stays (refused (plainly i)) m) e ∙ sym (trace-refuses decideOf budget m b (λ y. z (e ∙ y))))
       (rw (log-none m) (turned-as m n b))

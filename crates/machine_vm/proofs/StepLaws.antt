@@ -10,7 +10,7 @@ use Rattle.machine.specs.declared.refusal.InstructionError.the-variants as I
 use Rattle.choices.specs.Choice.{firstOf, aboveOf}
 use Rattle.machine.specs.Refusal.{plainly}
 use Rattle.machine.specs.Machine.{Memory, Machine}
-use Rattle.machine.specs.PlaceA.{longest, buffer1, machineA, stepA}
+use Rattle.machine.specs.PlaceA.{longest, mostBytes, buffer1, machineA, stepA}
 use Rattle.machine.specs.Decide.{decideOf}
 use Rattle.machine.specs.Step.{outcomeBy, stepBy}
 use Rattle.choices.proofs.Choice.{first-nil, above-nil}
@@ -22,7 +22,7 @@ use Rattle.machine_perform.specs.AnswerView.{turned}
 use Rattle.machine_vm.specs.StepView.{Steps}
 use Rattle.machine_step.specs.AdvanceView.{Standing, Advanced}
 
-pub step-number : (m : Machine) (b : List ℕ) {s k n : ℕ} → s ≡ firstOf (aboveOf (length b) longest 1) (aboveOf 1024 (length b) 1) → k ≡ machineA m → n ≡ firstOf s k → n ≡ stepA m b
+pub step-number : (m : Machine) (b : List ℕ) {s k n : ℕ} → s ≡ firstOf (aboveOf (length b) longest 1) (aboveOf (mostBytes (m .state .revision)) (length b) 1) → k ≡ machineA m → n ≡ firstOf s k → n ≡ stepA m b
 unfolding stepA buffer1
 step-number m b e f g = g ∙ rw (e, f)
 
@@ -31,7 +31,7 @@ pub stands : (m : Machine) (b : List ℕ) → length (m .state .sponge .words) �
 unfolding stepA buffer1
 stands m b sixteen clock h =
     let k = first-nil _ (machineA m) h in
-    record { sound = machine-sound m sixteen clock (k .1); room = λ _. above-nil 1024 (length b) 1 (omega arith) (first-nil _ (aboveOf 1024 (length b) 1) (k .0) .1) }
+    record { sound = machine-sound m sixteen clock (k .1); room = λ _. above-nil (mostBytes (m .state .revision)) (length b) 1 (omega arith) (first-nil _ (aboveOf (mostBytes (m .state .revision)) (length b) 1) (k .0) .1) }
 
 module _ (m : Machine) (b : List ℕ) where
   pub stepped : {r : Stepped} {n : Memory} {b2 : List ℕ} → stepA m b ≡ 0 → Advanced true m b r n b2 → Steps m b r n b2

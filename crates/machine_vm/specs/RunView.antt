@@ -14,7 +14,7 @@ abbrev pub Runs : ℕ → Machine → Ran → Memory → Type 0
 Runs budget m r n = RanAs (runOf budget m) [] (m .code) [] r n []
 
 abbrev pub traceLog : ℕ → Machine → List ℕ → List ℕ
-traceLog budget m b = logBytes (logFrom decideOf m (traceExecutionOf budget m b .machines))
+traceLog budget m b = logBytes (m .state .revision) (logFrom decideOf m (traceExecutionOf budget m b .machines))
 
 abbrev pub Traces : ℕ → Machine → List ℕ → Ran → Memory → List ℕ → Type 0
 Traces budget m b r n b2 = RanAs (traceExecutionOf budget m b) (traceLog budget m b) (m .code) b r n b2

@@ -31,7 +31,7 @@ pub fn step(
         (memoryIn «op_stack» origins destinations addresses values output)) (now (b .entry)) r
         (memoryOut «op_stack» origins destinations addresses values output) (now (b .exit)) ⌝ }
 {
-    let shape = check_buffer(b.len());
+    let shape = check_buffer(state.revision, b.len());
     let fault_number = check_machine(
         state,
         opcodes,

@@ -232,6 +232,7 @@ fn state_at(e: Entry, b: &[u8; 2048], words: &[u64; 512], from: usize, i: usize)
         digests: word(words, plus(from, 4)) as usize,
         sponge: sponge,
         halted: word(words, plus(from, 5)) == 1,
+        revision: 1,
     }
 }
 

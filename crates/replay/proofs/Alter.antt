@@ -8,7 +8,7 @@ use lib.ListN.{getD}
 use Rattle.choices.specs.Choice.{cond, firstOf, differOf}
 use Rattle.machine.specs.Ram.{held}
 use Rattle.machine.specs.Bytes.{bytesOf, isWord}
-use Rattle.machine.specs.Records.{Record, other, stack, ram}
+use Rattle.machine.specs.Records.{Record, other, timed, stack, ram}
 use Rattle.choices.proofs.Choice.{first-zero, first-left, first-nil, above-not, differ-is, differ-nil}
 use Rattle.replay.specs.Replay.{Built, word40, fields40, stackFault, ramFault, stackTurn, ramTurn, wrong, goes, judged, readOf, bad, onward, replayRecords}
 use Rattle.replay.specs.Demand3.{Read, ofStack, ofRam}
@@ -48,6 +48,7 @@ reached {j} {b} late (y ∷ ys) r after (more {c = d} {r = x} {rs = rs} q h) l e
 -- the record with another value
 unfoldable pub changed : Record → ℕ → Record
 changed (other k b) x = other k b
+changed (timed k t b) x = timed k t b
 changed (stack t q d v) x = stack t q d x
 changed (ram t a v d) x = ram t a x d
 

@@ -1,5 +1,5 @@
 -- Steps in a row: replay to clock j comes to the machine after step j, and everything behind that stops it. Assumes nothing.
-use mathlib.Core.Path.{_≡_, refl, sym, ap, _∙_}
+use mathlib.Core.Path.{_≡_, refl, sym, ap, subst, _∙_}
 use mathlib.Core.Bool.{Bool, true, false}
 use mathlib.Core.List.{List, [], _∷_, _++_, append-assoc}
 use Prim.Native.Nat.{ℕ, suc, _+_, _-_, _≤_, _<_}
@@ -17,12 +17,12 @@ use Rattle.machine.specs.Step.{recordsIn}
 use Rattle.machine.specs.Path.{logFrom}
 use Rattle.machine.specs.Sound.{Sound, Facts}
 use Rattle.machine.proofs.Preserved.{limits-fit}
-use Rattle.machine.proofs.Step.{Took, step-took, took-sound}
+use Rattle.machine.proofs.Step.{Took, step-took, took-sound, step-revision}
 use Rattle.machine.proofs.Path.{Chain, chain-none, chain-more}
 use Rattle.replay.specs.Replay.{Tally, Built, built}
 use Rattle.replay.specs.Demand3.{under}
-use Rattle.replay.proofs.Verdicts.{Reads, none, reads-append, All, all-append, all-map, Late, late-other, late-stack, late-ram}
-use Rattle.replay.proofs.Steps.{Fresh, fresh-next, Arrives, Fine, fine-other, fine-stack, fine-ram, step-reads, step-fine}
+use Rattle.replay.proofs.Verdicts.{Reads, none, reads-append, All, all-append, all-map, Late, late-other, late-timed, late-stack, late-ram}
+use Rattle.replay.proofs.Steps.{Fresh, fresh-next, Arrives, Fine, fine-other, fine-timed, fine-stack, fine-ram, step-reads, step-fine}
 
 -- what replay stands at when it has rebuilt the machine m
 abbrev pub shadow : Tally → Machine → Cells → Built
@@ -30,25 +30,26 @@ shadow l m c = built l (m .state .depth) (under (m .memory .opStack) (m .state .
 
 -- ---- records of a step at clock k or later
 
-pub record Since (k : ℕ) (r : Record) : Type 0 where
+pub record Since (v k : ℕ) (r : Record) : Type 0 where
   pub at : ℕ
   pub late : k ≤ at
   pub small : at < 4294967296
-  pub fine : Fine at r
+  pub fine : Fine v at r
 
-since-less : (k m : ℕ) → k ≤ m → (r : Record) → Since m r → Since k r
-since-less k m h r s = record { at = s .at; late = omega arith; small = s .small; fine = s .fine }
+since-less : (v k m : ℕ) → k ≤ m → (r : Record) → Since v m r → Since v k r
+since-less v k m h r s = record { at = s .at; late = omega arith; small = s .small; fine = s .fine }
 
-fine-since : (k : ℕ) → k < 4294967296 → (r : Record) → Fine k r → Since k r
-fine-since k h r f = record { at = k; late = omega arith; small = h; fine = f }
+fine-since : (v k : ℕ) → k < 4294967296 → (r : Record) → Fine v k r → Since v k r
+fine-since v k h r f = record { at = k; late = omega arith; small = h; fine = f }
 
-fine-late : (j t : ℕ) (r : Record) → j ≤ t → Fine t r → Late j r
-fine-late j t r h (fine-other a b c) = late-other
-fine-late j t r h (fine-stack a b c) = late-stack h
-fine-late j t r h (fine-ram a b c) = late-ram h
+fine-late : (v j t : ℕ) (r : Record) → j ≤ t → Fine v t r → Late j r
+fine-late v j t r h (fine-other a b c) = late-other
+fine-late v j t r h (fine-timed a b c) = late-timed h
+fine-late v j t r h (fine-stack a b c) = late-stack h
+fine-late v j t r h (fine-ram a b c) = late-ram h
 
-since-late : (j k : ℕ) → j ≤ k → (r : Record) → Since k r → Late j r
-since-late j k h r s = fine-late j (s .at) r (omega (arith, s .late)) (s .fine)
+since-late : (v j k : ℕ) → j ≤ k → (r : Record) → Since v k r → Late j r
+since-late v j k h r s = fine-late v j (s .at) r (omega (arith, s .late)) (s .fine)
 
 -- ---- the log up to clock j, and behind it
 
@@ -94,16 +95,16 @@ module _ (decide : Machine → Decision) (facts : (m : Machine) → Sound m → 
       rw (next-records m x t, ← t .is)
       (step-reads m (t .effect) s (facts m s (t .effect) (t .acting)) (limits-fit m (t .effect) (t .limits)) j early c al l h)
 
-  pub chain-fine : {m : Machine} {ms : List Machine} → Chain decide m ms → Sound m → All (Since (m .state .clock)) (logFrom decide m ms)
+  pub chain-fine : {m : Machine} {ms : List Machine} → Chain decide m ms → Sound m → All (Since (m .state .revision) (m .state .clock)) (logFrom decide m ms)
   unfolding logFrom
   chain-fine chain-none s = none
-  chain-fine {m} (chain-more {x = x} e ch) s =
+  chain-fine {m} (chain-more {x = x} {xs = xs} e ch) s =
       let t = step-took decide m x e in
       let c : m .state .clock ≤ x .state .clock = omega (arith, next-clock m x t) in
       rw (next-records m x t)
       (all-append
-      (all-map (fine-since (m .state .clock) (s .clock)) (step-fine m (t .effect) s (facts m s (t .effect) (t .acting)) (limits-fit m (t .effect) (t .limits))))
-      (all-map (since-less (m .state .clock) (x .state .clock) c) (chain-fine ch (took-sound decide facts m x s t))))
+      (all-map (fine-since (m .state .revision) (m .state .clock) (s .clock)) (step-fine m (t .effect) s (facts m s (t .effect) (t .acting)) (limits-fit m (t .effect) (t .limits))))
+      (all-map (since-less (m .state .revision) (m .state .clock) (x .state .clock) c) (subst (λ (v : ℕ). All (Since v (x .state .clock)) (logFrom decide x xs)) (step-revision decide m x e) (chain-fine ch (took-sound decide facts m x s t)))))
 
   pub chain-split : {m : Machine} {ms : List Machine} → Chain decide m ms → Sound m → (j : ℕ) → m .state .clock ≤ j → j ≤ m .state .clock + length ms →
       (c : Cells) → Alike c (M.ram m) → (l : Tally) → Fresh l (m .state .clock) → (z : Machine) →
@@ -116,7 +117,7 @@ module _ (decide : Machine → Decision) (facts : (m : Machine) → Sound m → 
       go (ltb (m .state .clock) j) refl (chain-fine (chain-more e ch) s) (λ n k. chain-split ch (took-sound decide facts m x s (step-took decide m x e)) j n k)
     where
       go : (b : Bool) → ltb (m .state .clock) j ≡ b →
-          All (Since (m .state .clock)) (recordsIn m (decide m) ++ logFrom decide x xs) →
+          All (Since (m .state .revision) (m .state .clock)) (recordsIn m (decide m) ++ logFrom decide x xs) →
           (x .state .clock ≤ j → j ≤ x .state .clock + length xs → (d : Cells) → Alike d (M.ram x) → (n : Tally) → Fresh n (x .state .clock) → (y : Machine) → Split j (shadow n x d) (logFrom decide x xs) (getD (x ∷ xs) (j - x .state .clock) y)) →
           Split j (shadow l m c) (recordsIn m (decide m) ++ logFrom decide x xs) (getD (m ∷ x ∷ xs) (j - m .state .clock) z)
       go true q f ih =
@@ -125,8 +126,8 @@ module _ (decide : Machine → Decision) (facts : (m : Machine) → Sound m → 
           let n : x .state .clock ≡ m .state .clock + 1 = next-clock m x t in
           let k = next-reads m x s t j o c al l h in
           let i : j - m .state .clock ≡ suc (j - x .state .clock) = omega arith in
-          rw i (split-more (k .reads) (ih (omega arith) (omega arith) (k .now) (k .alike) (k .counts) (fresh-next (k .counts) (x .state .clock) (omega (arith, k .rise))) z))
+          rw i (split-more (k .reads) (ih (omega arith) (omega arith) (k .now) (k .alike) (k .counts) (fresh-next (k .counts) (x .state .clock) (omega (arith, k .rise)) (omega (arith, k .below))) z))
       go false q f ih =
           let o : j ≤ m .state .clock = ltb-false (m .state .clock) j q in
           let i : j - m .state .clock ≡ 0 = omega arith in
-          rw i (split-late j l m c al (all-map (since-late j (m .state .clock) o) f))
+          rw i (split-late j l m c al (all-map (since-late (m .state .revision) j (m .state .clock) o) f))

@@ -22,7 +22,7 @@ use Rattle.machine.specs.Path.{spent, refused, Path, path, stays, logFrom}
 use Rattle.machine.specs.Sound.{Sound, Facts}
 use Rattle.choices.proofs.Choice.{first-zero}
 use Rattle.machine.proofs.PlaceA.{machine-accepted}
-use Rattle.machine.proofs.Step.{step-outcome, step-records, step-sound}
+use Rattle.machine.proofs.Step.{step-outcome, step-records, step-sound, step-revision}
 use Rattle.machine.proofs.Path.{lastOf, Chain, chain-none, chain-more, Row, log-joined}
 use Rattle.replay.specs.Job.{Ask, step, askOf, jobOf, recordsOfJob, machineAt}
 use Rattle.replay.proofs.Calls.{row-ask, job-chain}
@@ -51,15 +51,15 @@ module _ (decide : Machine → Decision) where
 
   -- the log of one step is what step leaves at the start of its buffer
   pub step-log : (m : Machine) (b : List ℕ) (x : Machine) → stepBy decide m b .outcome ≡ took x →
-      take (stepBy decide m b .bytes) (stepBy decide m b .buffer) ≡ logBytes (logFrom decide m (x ∷ []))
+      take (stepBy decide m b .bytes) (stepBy decide m b .buffer) ≡ logBytes (m .state .revision) (logFrom decide m (x ∷ []))
   unfolding stepBy logFrom
-  step-log m b x h = go (eqb (stepA m b) 0) h ∙ ap logBytes (sym (append-nil (recordsIn m (decide m))))
+  step-log m b x h = go (eqb (stepA m b) 0) h ∙ ap (logBytes (m .state .revision)) (sym (append-nil (recordsIn m (decide m))))
     where
       made : Bool → Stepped
-      made t = cond t (steppedBy b (logBytes (recordsIn m (decide m))) (outcomeBy decide m)) (record { outcome = kept (plainly (stepA m b)); bytes = 0; buffer = b })
+      made t = cond t (steppedBy b (logBytes (m .state .revision) (recordsIn m (decide m))) (outcomeBy decide m)) (record { outcome = kept (plainly (stepA m b)); bytes = 0; buffer = b })
 
-      go : (t : Bool) → made t .outcome ≡ took x → take (made t .bytes) (made t .buffer) ≡ logBytes (recordsIn m (decide m))
-      go true q = stepped-log b (logBytes (recordsIn m (decide m))) (outcomeBy decide m) x q
+      go : (t : Bool) → made t .outcome ≡ took x → take (made t .bytes) (made t .buffer) ≡ logBytes (m .state .revision) (recordsIn m (decide m))
+      go true q = stepped-log b (logBytes (m .state .revision) (recordsIn m (decide m))) (outcomeBy decide m) x q
       go false q = let z : _≡_ {A = ℕ} 0 1 = cc in absurd (omega arith)
 
   -- the job's log is the calls' logs, one behind the other: what a call of trace_execution writes, the bytes of logFrom over its path's machines
@@ -83,29 +83,29 @@ module _ (decide : Machine → Decision) where
 
   -- ---- a step within run
 
-  accepted : (m : Machine) (b : List ℕ) → machineA m ≡ 0 → buffer1 b ≡ 0 → stepA m b ≡ 0
+  accepted : (m : Machine) (b : List ℕ) → machineA m ≡ 0 → buffer1 (m .state .revision) b ≡ 0 → stepA m b ≡ 0
   unfolding stepA
   accepted m b h k = first-zero _ _ k ∙ h
 
   -- of a machine that place A accepts, step with any call buffer that it accepts has the outcome that run goes on with
-  pub step-as-run : (m : Machine) (b : List ℕ) → machineA m ≡ 0 → buffer1 b ≡ 0 → stepBy decide m b .outcome ≡ outcomeBy decide m
+  pub step-as-run : (m : Machine) (b : List ℕ) → machineA m ≡ 0 → buffer1 (m .state .revision) b ≡ 0 → stepBy decide m b .outcome ≡ outcomeBy decide m
   step-as-run m b h k = step-outcome decide m b ∙ rw (eq-eqb (stepA m b) 0 (accepted m b h k))
 
   -- and where it is taken, it writes the step's records at the buffer's start
-  pub step-writes : (m : Machine) (b : List ℕ) (x : Machine) → machineA m ≡ 0 → buffer1 b ≡ 0 → outcomeBy decide m ≡ took x →
-      stepBy decide m b ≡ steppedBy b (logBytes (recordsIn m (decide m))) (took x)
+  pub step-writes : (m : Machine) (b : List ℕ) (x : Machine) → machineA m ≡ 0 → buffer1 (m .state .revision) b ≡ 0 → outcomeBy decide m ≡ took x →
+      stepBy decide m b ≡ steppedBy b (logBytes (m .state .revision) (recordsIn m (decide m))) (took x)
   step-writes m b x h k e = step-records decide m b x (accepted m b h k) e
 
   module _ (facts : (m : Machine) → Sound m → (e : Effect) → decide m ≡ acts e → Facts m e) where
-    chain-step : {m : Machine} {ms : List Machine} (j : ℕ) (d : Machine) (b : List ℕ) → Chain decide m ms → Sound m → buffer1 b ≡ 0 → j < length ms →
-        stepBy decide (getD (m ∷ ms) j d) b ≡ steppedBy b (logBytes (recordsIn (getD (m ∷ ms) j d) (decide (getD (m ∷ ms) j d)))) (took (getD (m ∷ ms) (suc j) d))
+    chain-step : {m : Machine} {ms : List Machine} (j : ℕ) (d : Machine) (b : List ℕ) → Chain decide m ms → Sound m → buffer1 (m .state .revision) b ≡ 0 → j < length ms →
+        stepBy decide (getD (m ∷ ms) j d) b ≡ steppedBy b (logBytes (getD (m ∷ ms) j d .state .revision) (recordsIn (getD (m ∷ ms) j d) (decide (getD (m ∷ ms) j d)))) (took (getD (m ∷ ms) (suc j) d))
     chain-step j d b chain-none s k h = absurd (omega arith)
     chain-step {m} zero d b (chain-more {x = x} e c) s k h = step-writes m b x (machine-accepted m s) k e
-    chain-step {m} (suc j) d b (chain-more {x = x} e c) s k h = chain-step j d b c (step-sound decide facts m x s e) k (omega arith)
+    chain-step {m} (suc j) d b (chain-more {x = x} e c) s k h = chain-step j d b c (step-sound decide facts m x s e) (rw (step-revision decide m x e) k) (omega arith)
 
     -- 'a step taken within run counts, in records and state, as if step had taken it': whichever call took the job's step j, step
     -- takes the machine before it to the machine after it, and writes the records that the job's log has for it
-    pub job-step : (m : Machine) (asks : List Ask) (j : ℕ) (b : List ℕ) → Sound m → buffer1 b ≡ 0 → j < length (jobOf decide m asks) →
+    pub job-step : (m : Machine) (asks : List Ask) (j : ℕ) (b : List ℕ) → Sound m → buffer1 (m .state .revision) b ≡ 0 → j < length (jobOf decide m asks) →
         stepBy decide (machineAt decide m asks j) b
-        ≡ steppedBy b (logBytes (recordsIn (machineAt decide m asks j) (decide (machineAt decide m asks j)))) (took (machineAt decide m asks (suc j)))
+        ≡ steppedBy b (logBytes (machineAt decide m asks j .state .revision) (recordsIn (machineAt decide m asks j) (decide (machineAt decide m asks j)))) (took (machineAt decide m asks (suc j)))
     job-step m asks j b s k h = chain-step j m b (job-chain decide asks m) s k h

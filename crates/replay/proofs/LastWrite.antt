@@ -6,7 +6,7 @@ use Prim.Native.Nat.{ℕ, zero, suc, _≤_}
 use native.Mathlib.Omega.{arith}
 use lib.ListN.{length}
 use Rattle.machine.specs.Ram.{Cells, held, has, stored}
-use Rattle.machine.specs.Records.{Record, other, stack, ram}
+use Rattle.machine.specs.Records.{Record, other, timed, stack, ram}
 use Rattle.choices.proofs.Choice.{first-nil, above-nil}
 use Rattle.machine.proofs.RamLaws.{stored-addresses, stored-values, held-stored, has-stored}
 use Rattle.replay.specs.Replay.{Built, stackTurn, ramTurn, ramFault, goes, readOf}
@@ -16,6 +16,7 @@ use Rattle.replay.proofs.Verdicts.{Reads, none, more, judged-went}
 -- what one record that is read does to the cells
 pub data Turned (c : Cells) : Record → Cells → Type 0 where
   by-other : {k : ℕ} {s : List ℕ} → Turned c (other k s) c
+  by-timed : {k t : ℕ} {s : List ℕ} → Turned c (timed k t s) c
   by-stack : {t q d v : ℕ} → Turned c (stack t q d v) c
   by-read : {t a v : ℕ} → Turned c (ram t a v 0) c
   by-write : {t a v d : ℕ} → stored c a v .count ≤ length (c .addresses) → Turned c (ram t a v (suc d)) (stored c a v)
@@ -23,6 +24,7 @@ pub data Turned (c : Cells) : Record → Cells → Type 0 where
 pub turned : (j : ℕ) (b c : Built) (r : Record) → readOf j b r ≡ goes c → Turned (b .cells) r (c .cells)
 unfolding readOf ramTurn stackTurn ramFault
 turned j b c (other k s) e = let y : b ≡ c = cc in rw (← y) by-other
+turned j b c (timed k t s) e = rw (← judged-went j t _ _ c e .1) by-timed
 turned j b c (stack t q zero v) e = rw (← judged-went j t _ _ c e .1) by-stack
 turned j b c (stack t q (suc d) v) e = rw (← judged-went j t _ _ c e .1) by-stack
 turned j b c (ram t a v zero) e = rw (← judged-went j t _ _ c e .1) by-read
@@ -37,6 +39,7 @@ module _ (rs : List Record) (a : ℕ) where
   wrote-one : {k m : Cells} {x : Record} → Turned k x m → length (k .addresses) ≡ length (k .values) → wroteOf rs a (held m a) ≡ wroteOf (x ∷ rs) a (held k a)
   unfolding wroteOf
   wrote-one by-other p = refl
+  wrote-one by-timed p = refl
   wrote-one by-stack p = refl
   wrote-one by-read p = refl
   wrote-one {k} (by-write {a = b} {v = v} r) p = rw (held-stored k b v r p a)
@@ -44,6 +47,7 @@ module _ (rs : List Record) (a : ℕ) where
   had-one : {k m : Cells} {x : Record} → Turned k x m → length (k .addresses) ≡ length (k .values) → hadOf rs a (has m a) ≡ hadOf (x ∷ rs) a (has k a)
   unfolding hadOf
   had-one by-other p = refl
+  had-one by-timed p = refl
   had-one by-stack p = refl
   had-one by-read p = refl
   had-one {k} (by-write {a = b} {v = v} r) p = rw (has-stored k b v r p a)
@@ -51,18 +55,21 @@ module _ (rs : List Record) (a : ℕ) where
 all-one : {k m : Cells} {x : Record} (rs : List Record) → Turned k x m → wroteAll m rs ≡ wroteAll k (x ∷ rs)
 unfolding wroteAll
 all-one rs by-other = refl
+all-one rs by-timed = refl
 all-one rs by-stack = refl
 all-one rs by-read = refl
 all-one rs (by-write r) = refl
 
 turned-room : {k m : Cells} {x : Record} → Turned k x m → length (m .addresses) ≡ length (k .addresses)
 turned-room by-other = refl
+turned-room by-timed = refl
 turned-room by-stack = refl
 turned-room by-read = refl
 turned-room {k} (by-write {a = b} {v = v} r) = stored-addresses k b v
 
 turned-pair : {k m : Cells} {x : Record} → Turned k x m → length (k .addresses) ≡ length (k .values) → length (m .addresses) ≡ length (m .values)
 turned-pair by-other p = p
+turned-pair by-timed p = p
 turned-pair by-stack p = p
 turned-pair by-read p = p
 turned-pair {k} (by-write {a = b} {v = v} r) p = stored-addresses k b v ∙ p ∙ sym (stored-values k b v)

@@ -20,13 +20,13 @@ finished-refused : (w : Went) (s : List ℕ) (c : Cells) → (finished w s c .nu
 finished-refused (bad n) s c h = record { depth = refl; count = refl; words = refl; addresses = refl; values = refl }
 finished-refused (fine b) s c h = absurd (h refl)
 
-pub replay-refused : (log : List ℕ) (c : Cells) (s : List ℕ) (j : ℕ) → (replayOf log c s j .number ≡ 0 → ⊥) → Unchanged s c (replayOf log c s j)
+pub replay-refused : (v : ℕ) (log : List ℕ) (c : Cells) (s : List ℕ) (j : ℕ) → (replayOf v log c s j .number ≡ 0 → ⊥) → Unchanged s c (replayOf v log c s j)
 unfolding replayOf
-replay-refused log c s j = go (eqb (replayA log c s) 0)
+replay-refused v log c s j = go (eqb (replayA v log c s) 0)
   where
     w : Went
-    w = replayBytes (length log) j (started s c) log
+    w = replayBytes v (length log) j (started s c) log
 
-    go : (t : Bool) → (cond t (finished w s c) (refuses (replayA log c s) s c) .number ≡ 0 → ⊥) → Unchanged s c (cond t (finished w s c) (refuses (replayA log c s) s c))
+    go : (t : Bool) → (cond t (finished w s c) (refuses (replayA v log c s) s c) .number ≡ 0 → ⊥) → Unchanged s c (cond t (finished w s c) (refuses (replayA v log c s) s c))
     go true h = finished-refused w s c h
     go false h = record { depth = refl; count = refl; words = refl; addresses = refl; values = refl }

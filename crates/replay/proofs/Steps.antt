@@ -7,7 +7,8 @@ use native.Mathlib.Nat.{add-zero, sub-zero}
 use native.Mathlib.Omega.{arith}
 use borrow.Author.Tests.{eq-eqb, ne-eqb, leb-true, leb-false}
 use lib.ListN.{length, getD, length-append}
-use lib.Dec.{leb, lit≤}
+use lib.Dec.{eqb, leb, lit≤}
+use Rattle.choices.specs.Choice.{cond}
 use Rattle.machine.specs.Words.{p, Words}
 use Rattle.machine.specs.Ram.{Cells, stored, Alike}
 use Rattle.machine.specs.Machine.{Machine}
@@ -15,7 +16,7 @@ use Rattle.machine.specs.Machine as M
 use Rattle.machine.specs.Bytes.{bytesOf}
 use Rattle.machine.specs.Effect.{Call, Effect}
 use Rattle.machine.specs.Apply.{touched, depthAfter, stackAfter, ramAfter}
-use Rattle.machine.specs.Records.{Record, other, stack, ram, lengthOf, wordsBytes, callRecord, callRecords, growing, shrinking, stackRecords, recordsOf}
+use Rattle.machine.specs.Records.{Record, other, timed, stack, ram, lengthOf, wordsBytes, clocked, callRecord, callRecords, growing, shrinking, stackRecords, recordsOf}
 use Rattle.machine.specs.Sound.{Honest, Sound, Facts, ramCalls}
 use Rattle.machine.proofs.Words.{words-getD}
 use Rattle.machine.proofs.RamLaws.{stored-addresses, alike-held, alike-stored}
@@ -24,39 +25,62 @@ use Rattle.machine.proofs.OpStack.{applied-words, applied-length, applied-below
 use Rattle.machine.proofs.Bytes.{bytes-length}
 use Rattle.machine.proofs.Records.{words-bytes-length, stack-grows, stack-shrinks}
 use Rattle.machine.proofs.Preserved.{Fits}
-use Rattle.replay.specs.Replay.{Tally, tally, tallyAt, withStack, withRam, Built, built}
+use Rattle.replay.specs.Replay.{Tally, tally, tallyAt, withStack, withRam, withTimed, Built, built, goes, readOf}
 use Rattle.replay.specs.Demand3.{under}
 use Rattle.replay.proofs.Under.{under-same, under-length, under-more, under-top, under-less}
-use Rattle.replay.proofs.Verdicts.{Reads, none, more, reads-append, reads-snoc, All, all-append, ram-read, ram-write, stack-read, stack-write, other-read}
+use Rattle.replay.proofs.Verdicts.{Reads, none, more, reads-append, reads-snoc, All, all-append, ram-read, ram-write, stack-read, stack-write, other-read, timed-read}
 
 -- ---- what is counted at a clock
 
 -- at clock t there are n stack records, of direction w
 pub record Counted (l : Tally) (t n w : ℕ) : Type 0 where
   pub rise : l .last ≤ t
+  pub below : l .clock ≤ t
   pub stacks : tallyAt l t .stacks ≡ n
   pub way : (n ≡ 0 → ⊥) → tallyAt l t .way ≡ w
 
 -- no record of the stack or of RAM yet
 pub record Fresh (l : Tally) (t : ℕ) : Type 0 where
   pub rise : l .last ≤ t
+  pub below : l .clock ≤ t
   pub stacks : tallyAt l t .stacks ≡ 0
   pub rams : tallyAt l t .rams ≡ 0
 
 -- at a higher clock nothing is counted yet
-pub fresh-next : (l : Tally) (t : ℕ) → l .last < t → Fresh l t
+pub fresh-next : (l : Tally) (t : ℕ) → l .last < t → l .clock < t → Fresh l t
 unfolding tallyAt
-fresh-next l t h =
-    let n : l .last ≡ t → ⊥ = λ e. omega arith in
-    record { rise = omega arith; stacks = rw (ne-eqb (l .last) t n); rams = rw (ne-eqb (l .last) t n) }
+fresh-next l t h k =
+    let n : l .clock ≡ t → ⊥ = λ e. omega arith in
+    record { rise = omega arith; below = omega arith; stacks = rw (ne-eqb (l .clock) t n); rams = rw (ne-eqb (l .clock) t n) }
 
-pub fresh-first : Fresh (tally 0 0 0 0) 0
+pub fresh-first : Fresh (tally 0 0 0 0 0) 0
 unfolding tallyAt
-fresh-first = record { rise = omega arith; stacks = refl; rams = refl }
+fresh-first = record { rise = omega arith; below = omega arith; stacks = refl; rams = refl }
 
-tally-same : (t w n m : ℕ) → tallyAt (tally t w n m) t ≡ tally t w n m
+tally-same : (t w n m : ℕ) → tallyAt (tally t t w n m) t ≡ tally t t w n m
 unfolding tallyAt
 tally-same t w n m = rw (eq-eqb t t refl)
+
+-- a Tip5 or U32 record with a clock is not counted
+timed-stacks : (l : Tally) (t : ℕ) → tallyAt (withTimed l t) t .stacks ≡ tallyAt l t .stacks
+unfolding withTimed tallyAt
+timed-stacks l t = go (eqb (l .clock) t)
+  where
+    go : (u : Bool) → cond u (tally t (l .clock) (l .way) (l .stacks) (l .rams)) (tally t t 0 0 0) .stacks ≡ cond u l (tally (l .last) t 0 0 0) .stacks
+    go true = refl
+    go false = refl
+
+timed-rams : (l : Tally) (t : ℕ) → tallyAt (withTimed l t) t .rams ≡ tallyAt l t .rams
+unfolding withTimed tallyAt
+timed-rams l t = go (eqb (l .clock) t)
+  where
+    go : (u : Bool) → cond u (tally t (l .clock) (l .way) (l .stacks) (l .rams)) (tally t t 0 0 0) .rams ≡ cond u l (tally (l .last) t 0 0 0) .rams
+    go true = refl
+    go false = refl
+
+timed-counted : {l : Tally} {t w : ℕ} → Counted l t 0 w → Counted (withTimed l t) t 0 w
+unfolding withTimed
+timed-counted {l} {t} k = record { rise = omega arith; below = k .below; stacks = timed-stacks l t ∙ k .stacks; way = λ n. absurd (n refl) }
 
 ram-rams : (l : Tally) (t : ℕ) → tallyAt (withRam l t) t .rams ≡ tallyAt l t .rams + 1
 unfolding withRam
@@ -64,12 +88,12 @@ ram-rams l t = ap (λ z. z .rams) (tally-same t _ _ _)
 
 ram-counted : {l : Tally} {t w : ℕ} → Counted l t 0 w → Counted (withRam l t) t 0 w
 unfolding withRam
-ram-counted {l} {t} k = record { rise = omega arith; stacks = ap (λ z. z .stacks) (tally-same t _ _ _) ∙ k .stacks; way = λ n. absurd (n refl) }
+ram-counted {l} {t} k = record { rise = omega arith; below = omega arith; stacks = ap (λ z. z .stacks) (tally-same t _ _ _) ∙ k .stacks; way = λ n. absurd (n refl) }
 
 stack-counted : {l : Tally} {t n w : ℕ} → Counted l t n w → Counted (withStack l t w) t (suc n) w
 unfolding withStack
 stack-counted {l} {t} {n} k =
-    record { rise = omega arith; stacks = ap (λ z. z .stacks) (tally-same t _ _ _) ∙ (omega (arith, k .stacks)); way = λ _. ap (λ z. z .way) (tally-same t _ _ _) }
+    record { rise = omega arith; below = omega arith; stacks = ap (λ z. z .stacks) (tally-same t _ _ _) ∙ (omega (arith, k .stacks)); way = λ _. ap (λ z. z .way) (tally-same t _ _ _) }
 
 -- replay comes from b over the records rs to depth d, words s and cells alike to c, with n stack records of direction w at clock t
 record Comes (j t : ℕ) (b : Built) (rs : List Record) (d : ℕ) (s : List ℕ) (c : Cells) (n w : ℕ) : Type 0 where
@@ -83,6 +107,7 @@ record Comes (j t : ℕ) (b : Built) (rs : List Record) (d : ℕ) (s : List ℕ)
 pub record Arrives (j t : ℕ) (b : Built) (rs : List Record) (d : ℕ) (s : List ℕ) (c : Cells) : Type 0 where
   pub counts : Tally
   pub rise : counts .last ≤ t
+  pub below : counts .clock ≤ t
   pub now : Cells
   pub alike : Alike now c
   pub reads : Reads j b rs (built counts d s now)
@@ -98,21 +123,38 @@ down-two d n h = omega arith
 down-small : (d n b : ℕ) → d ≤ b → b ≤ 16777216 → d - 1 - n < p
 down-small d n b h k = omega arith
 
-module _ (j t : ℕ) (early : t < j) where
+-- replay goes over a Tip5 or U32 record, with a clock or without one, and counts nothing
+record Passes (j t : ℕ) (l : Tally) (d : ℕ) (s : List ℕ) (c : Cells) (w : ℕ) (r : Record) : Type 0 where
+  next : Tally
+  counted : Counted next t 0 w
+  rams : tallyAt next t .rams ≡ tallyAt l t .rams
+  read : readOf j (built l d s c) r ≡ goes (built next d s c)
+
+module _ (v j t : ℕ) (early : t < j) where
+  clocked-passes : (k : ℕ) (b : List ℕ) (l : Tally) (d : ℕ) (s : List ℕ) (c : Cells) (w : ℕ) → Counted l t 0 w → Passes j t l d s c w (clocked v t k b)
+  unfolding clocked
+  clocked-passes k b l d s c w h = go (eqb v 2)
+    where
+      go : (u : Bool) → Passes j t l d s c w (cond u (timed (k + 4) t b) (other k b))
+      go true = record { next = withTimed l t; counted = timed-counted h; rams = timed-rams l t; read = timed-read j t (built l d s c) early (h .rise) (k + 4) b }
+      go false = record { next = l; counted = h; rams = refl; read = other-read j k (built l d s c) b }
+
   calls-read : {c : Cells} {cs : List Call} → Honest c cs → touched c cs .count ≤ length (c .addresses) →
       (l : Tally) (d : ℕ) (s : List ℕ) (now : Cells) (w : ℕ) → Alike now c → Counted l t 0 w → tallyAt l t .rams + ramCalls cs ≤ 10 →
-      Comes j t (built l d s now) (callRecords t cs) d s (touched c cs) 0 w
+      Comes j t (built l d s now) (callRecords v t cs) d s (touched c cs) 0 w
   unfolding touched callRecords callRecord ramCalls
   calls-read Honest.none f l d s now w al h m = record { counts = l; counted = h; now = now; alike = al; reads = none }
   calls-read (Honest.resets g) f l d s now w al h m =
       let k = calls-read g f l d s now w al h m in
       record { counts = k .counts; counted = k .counted; now = k .now; alike = k .alike; reads = more (other-read j 1 (built l d s now) []) (k .reads) }
   calls-read (Honest.traces {o = o} {t = x} e g) f l d s now w al h m =
-      let k = calls-read g f l d s now w al h m in
-      record { counts = k .counts; counted = k .counted; now = k .now; alike = k .alike; reads = more (other-read j 2 (built l d s now) (bytesOf 2 o ++ wordsBytes x)) (k .reads) }
+      let q = clocked-passes 2 (bytesOf 2 o ++ wordsBytes x) l d s now w h in
+      let k = calls-read g f (q .next) d s now w al (q .counted) (omega (arith, q .rams, m)) in
+      record { counts = k .counts; counted = k .counted; now = k .now; alike = k .alike; reads = more (q .read) (k .reads) }
   calls-read (Honest.u32s {o = o} {l = x} {r = y} g) f l d s now w al h m =
-      let k = calls-read g f l d s now w al h m in
-      record { counts = k .counts; counted = k .counted; now = k .now; alike = k .alike; reads = more (other-read j 3 (built l d s now) (bytesOf 2 o ++ bytesOf 8 x ++ bytesOf 8 y)) (k .reads) }
+      let q = clocked-passes 3 (bytesOf 2 o ++ bytesOf 8 x ++ bytesOf 8 y) l d s now w h in
+      let k = calls-read g f (q .next) d s now w al (q .counted) (omega (arith, q .rams, m)) in
+      record { counts = k .counts; counted = k .counted; now = k .now; alike = k .alike; reads = more (q .read) (k .reads) }
   calls-read (Honest.reads {a = a} {v = v} q r e g) f l d s now w al h m =
       let k = calls-read g f (withRam l t) d s now w al (ram-counted h) (omega (arith, ram-rams l t, m)) in
       record {
@@ -135,6 +177,7 @@ module _ (j t : ℕ) (early : t < j) where
         reads = more (ram-write j t (built l d s now) early (h .rise) (omega (arith, m)) a v q r o) (k .reads);
       }
 
+module _ (j t : ℕ) (early : t < j) where
   module _ (s : List ℕ) (words : Words s) (few : length s ≤ 16777216) (c now : Cells) (al : Alike now c) where
     -- one write more
     grow-one : {b : Built} {rs : List Record} (d n : ℕ) → 16 ≤ d + n → d + n < length s → n < 10 → Comes j t b rs (d + n) (under s (d + n)) c n 1 →
@@ -190,11 +233,11 @@ module _ (j t : ℕ) (early : t < j) where
         (shrink-one d n (omega arith) room (omega arith) (shrinking-read d n (omega arith) room (omega arith) l h))
 
 arrives : {j t : ℕ} {b : Built} {rs : List Record} {d : ℕ} {s : List ℕ} {c : Cells} {n w : ℕ} → Comes j t b rs d s c n w → Arrives j t b rs d s c
-arrives k = record { counts = k .counts; rise = k .counted .rise; now = k .now; alike = k .alike; reads = k .reads }
+arrives k = record { counts = k .counts; rise = k .counted .rise; below = k .counted .below; now = k .now; alike = k .alike; reads = k .reads }
 
 -- of either direction, where none is there yet
 recounted : {l : Tally} {t w : ℕ} (x : ℕ) → Counted l t 0 w → Counted l t 0 x
-recounted x k = record { rise = k .rise; stacks = k .stacks; way = λ n. absurd (n refl) }
+recounted x k = record { rise = k .rise; below = k .below; stacks = k .stacks; way = λ n. absurd (n refl) }
 
 grows-read : (j t : ℕ) → t < j → (s s2 : List ℕ) → Words s2 → length s2 ≤ 16777216 → (c now : Cells) → Alike now c → (d d2 : ℕ) → 16 ≤ d → d ≤ d2 → d2 ≤ length s2 → d2 ≤ d + 10 →
     (l : Tally) → Counted l t 0 1 → Arrives j t (built l d (under s2 d) now) (stackRecords t s s2 d d2) d2 (under s2 d2) c
@@ -212,38 +255,54 @@ shrinks-read j t early s s2 b m c now al d d2 low o high most l h =
 
 -- ---- and are as its clock and words have them
 
--- a record of a step at clock t
-pub data Fine (t : ℕ) : Record → Type 0 where
-  fine-other : {k : ℕ} {b : List ℕ} → 1 ≤ k → k ≤ 3 → lengthOf k ≡ length b + 2 → Fine t (other k b)
-  fine-stack : {q d v : ℕ} → q < p → d ≤ 1 → v < p → Fine t (stack t q d v)
-  fine-ram : {a v d : ℕ} → a < p → v < p → d ≤ 1 → Fine t (ram t a v d)
+-- a record of a step at clock t, in a log of revision v
+pub data Fine (v t : ℕ) : Record → Type 0 where
+  fine-other : {k : ℕ} {b : List ℕ} → 1 ≤ k → k ≤ 3 → lengthOf v k ≡ length b + 2 → Fine v t (other k b)
+  fine-timed : {k : ℕ} {b : List ℕ} → 6 ≤ k → k ≤ 7 → lengthOf v k ≡ length b + 6 → Fine v t (timed k t b)
+  fine-stack : {q d x : ℕ} → q < p → d ≤ 1 → x < p → Fine v t (stack t q d x)
+  fine-ram : {a x d : ℕ} → a < p → x < p → d ≤ 1 → Fine v t (ram t a x d)
 
-trace-length : (o : ℕ) (x : List ℕ) → length x ≡ 96 → lengthOf 2 ≡ length (bytesOf 2 o ++ wordsBytes x) + 2
-unfolding lengthOf
+clocked-fine : (v t k : ℕ) (b : List ℕ) → 2 ≤ k → k ≤ 3 → (eqb v 2 ≡ false → lengthOf v k ≡ length b + 2) → (eqb v 2 ≡ true → lengthOf v (k + 4) ≡ length b + 6) → Fine v t (clocked v t k b)
+unfolding clocked
+clocked-fine v t k b two three f g = go (eqb v 2) refl
+  where
+    go : (u : Bool) → eqb v 2 ≡ u → Fine v t (cond u (timed (k + 4) t b) (other k b))
+    go true e = fine-timed {k = k + 4} (omega arith) (omega arith) (g e)
+    go false e = fine-other {k = k} (omega arith) three (f e)
+
+trace-length : (o : ℕ) (x : List ℕ) → length x ≡ 96 → length (bytesOf 2 o ++ wordsBytes x) ≡ 770
 trace-length o x e = rw (length-append (bytesOf 2 o) (wordsBytes x), bytes-length 2 o, words-bytes-length x, e)
 
-u32-length : (o x y : ℕ) → lengthOf 3 ≡ length (bytesOf 2 o ++ bytesOf 8 x ++ bytesOf 8 y) + 2
-unfolding lengthOf bytesOf
+trace-fine : (v t : ℕ) (b : List ℕ) → length b ≡ 770 → Fine v t (clocked v t 2 b)
+unfolding lengthOf
+trace-fine v t b l = clocked-fine v t 2 b (omega arith) (omega arith) (λ e. rw (e, l)) (λ e. rw (e, l))
+
+u32-length : (o x y : ℕ) → length (bytesOf 2 o ++ bytesOf 8 x ++ bytesOf 8 y) ≡ 18
+unfolding bytesOf
 u32-length o x y = refl
 
-all-calls : (t : ℕ) {c : Cells} {cs : List Call} → Honest c cs → All (Fine t) (callRecords t cs)
+u32-fine : (v t : ℕ) (b : List ℕ) → length b ≡ 18 → Fine v t (clocked v t 3 b)
+unfolding lengthOf
+u32-fine v t b l = clocked-fine v t 3 b (omega arith) (omega arith) (λ e. rw (e, l)) (λ e. rw (e, l))
+
+all-calls : (v t : ℕ) {c : Cells} {cs : List Call} → Honest c cs → All (Fine v t) (callRecords v t cs)
 unfolding callRecords callRecord lengthOf
-all-calls t Honest.none = none
-all-calls t (Honest.resets g) = more (fine-other (lit≤ tt) (lit≤ tt) refl) (all-calls t g)
-all-calls t (Honest.traces {o = o} {t = x} e g) = more (fine-other (lit≤ tt) (lit≤ tt) (trace-length o x e)) (all-calls t g)
-all-calls t (Honest.u32s {o = o} {l = x} {r = y} g) = more (fine-other (lit≤ tt) (lit≤ tt) (u32-length o x y)) (all-calls t g)
-all-calls t (Honest.reads q r e g) = more (fine-ram {d = 0} q r (omega arith)) (all-calls t g)
-all-calls t (Honest.writes q r g) = more (fine-ram {d = 1} q r (omega arith)) (all-calls t g)
+all-calls v t Honest.none = none
+all-calls v t (Honest.resets g) = more (fine-other (lit≤ tt) (lit≤ tt) refl) (all-calls v t g)
+all-calls v t (Honest.traces {o = o} {t = x} e g) = more (trace-fine v t _ (trace-length o x e)) (all-calls v t g)
+all-calls v t (Honest.u32s {o = o} {l = x} {r = y} g) = more (u32-fine v t _ (u32-length o x y)) (all-calls v t g)
+all-calls v t (Honest.reads q r e g) = more (fine-ram {d = 0} q r (omega arith)) (all-calls v t g)
+all-calls v t (Honest.writes q r g) = more (fine-ram {d = 1} q r (omega arith)) (all-calls v t g)
 
-all-growing : (t : ℕ) (s : List ℕ) → Words s → (d n : ℕ) → d + n ≤ 16777216 → All (Fine t) (growing t s d n)
+all-growing : (v t : ℕ) (s : List ℕ) → Words s → (d n : ℕ) → d + n ≤ 16777216 → All (Fine v t) (growing t s d n)
 unfolding growing
-all-growing t s b d zero h = none
-all-growing t s b d (suc n) h = all-append (all-growing t s b d n (omega arith)) (more (fine-stack (omega arith) (omega arith) (words-getD (d + n - 16) b)) none)
+all-growing v t s b d zero h = none
+all-growing v t s b d (suc n) h = all-append (all-growing v t s b d n (omega arith)) (more (fine-stack (omega arith) (omega arith) (words-getD (d + n - 16) b)) none)
 
-all-shrinking : (t : ℕ) (s : List ℕ) → Words s → (d n : ℕ) → d ≤ 16777216 → All (Fine t) (shrinking t s d n)
+all-shrinking : (v t : ℕ) (s : List ℕ) → Words s → (d n : ℕ) → d ≤ 16777216 → All (Fine v t) (shrinking t s d n)
 unfolding shrinking
-all-shrinking t s b d zero h = none
-all-shrinking t s b d (suc n) h = all-append (all-shrinking t s b d n h) (more (fine-stack (omega arith) (omega arith) (words-getD (d - 1 - n - 16) b)) none)
+all-shrinking v t s b d zero h = none
+all-shrinking v t s b d (suc n) h = all-append (all-shrinking v t s b d n h) (more (fine-stack (omega arith) (omega arith) (words-getD (d - 1 - n - 16) b)) none)
 
 -- ---- the step
 
@@ -292,14 +351,14 @@ module _ (m : Machine) (e : Effect) (sound : Sound m) (facts : Facts m e) (fits 
       (depthAfter m e) (under (stackAfter m e) (depthAfter m e)) (ramAfter m e)
   unfolding recordsOf
   step-reads j early now al l h =
-      let n : Counted l (m .state .clock) 0 1 = record { rise = h .rise; stacks = h .stacks; way = λ z. absurd (z refl) } in
-      let a = calls-read j (m .state .clock) early (facts .calls) (fits .cells) l (m .state .depth) (under (m .memory .opStack) (m .state .depth)) now 1 al n (omega (arith, h .rams, facts .accesses)) in
+      let n : Counted l (m .state .clock) 0 1 = record { rise = h .rise; below = h .below; stacks = h .stacks; way = λ z. absurd (z refl) } in
+      let a = calls-read (m .state .revision) j (m .state .clock) early (facts .calls) (fits .cells) l (m .state .depth) (under (m .memory .opStack) (m .state .depth)) now 1 al n (omega (arith, h .rams, facts .accesses)) in
       let b = stack-reads j early (ramAfter m e) (a .now) (a .alike) (a .counts) (a .counted) in
-      record { counts = b .counts; rise = b .rise; now = b .now; alike = b .alike; reads = reads-append (a .reads) (b .reads) }
+      record { counts = b .counts; rise = b .rise; below = b .below; now = b .now; alike = b .alike; reads = reads-append (a .reads) (b .reads) }
 
-  pub step-fine : All (Fine (m .state .clock)) (recordsOf m e)
+  pub step-fine : All (Fine (m .state .revision) (m .state .clock)) (recordsOf m e)
   unfolding recordsOf stackRecords
   step-fine =
-      all-append (all-calls (m .state .clock) (facts .calls))
-      (all-append (all-growing (m .state .clock) (stackAfter m e) after-words (m .state .depth) (depthAfter m e - m .state .depth) (omega (arith, fits .depth, sound .opStack .few, sound .opStack .used)))
-      (all-shrinking (m .state .clock) (m .memory .opStack) (sound .opStack .words) (m .state .depth) (m .state .depth - depthAfter m e) (omega (arith, sound .opStack .few, sound .opStack .used))))
+      all-append (all-calls (m .state .revision) (m .state .clock) (facts .calls))
+      (all-append (all-growing (m .state .revision) (m .state .clock) (stackAfter m e) after-words (m .state .depth) (depthAfter m e - m .state .depth) (omega (arith, fits .depth, sound .opStack .few, sound .opStack .used)))
+      (all-shrinking (m .state .revision) (m .state .clock) (m .memory .opStack) (sound .opStack .words) (m .state .depth) (m .state .depth - depthAfter m e) (omega (arith, sound .opStack .few, sound .opStack .used))))

@@ -16,5 +16,5 @@ pub demand-3-of-triton : Demand3OfTriton
 demand-3-of-triton = demand-3 decideOf facts
 
 -- a job's own log never meets 45
-pub never-45 : (m : Machine) (c : Cells) (asks : List Ask) (j : ℕ) → Case decideOf m c asks j → replayed m c (logBytes (recordsOfJob decideOf m asks)) j .number ≡ 45 → ⊥
+pub never-45 : (m : Machine) (c : Cells) (asks : List Ask) (j : ℕ) → Case decideOf m c asks j → replayed m c (logBytes (m .state .revision) (recordsOfJob decideOf m asks)) j .number ≡ 45 → ⊥
 never-45 m c asks j o e = omega (arith, demand-3-of-triton .rebuilds m c asks j o .succeeds)

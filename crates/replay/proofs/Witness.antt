@@ -8,6 +8,7 @@ use lib.ListN.{length, replicate}
 use lib.Dec.{lit≤, lit<}
 use Rattle.choices.specs.Choice.{cond, firstOf, aboveOf, differOf}
 use Rattle.machine.specs.Bytes.{Bytes, none, more, bytesOf, belowFrom, isWord}
+use Rattle.machine.specs.Lengths.{clockBytes, mostBytes}
 use Rattle.machine.specs.Words.{wordOf2, wordsOf, zerosFrom}
 use Rattle.machine.specs.Ram.{cells, placeFrom, placeOf, standsAt, find, held, cells1, cells2, cells5, fallOf, fallsOf}
 use Rattle.machine.specs.Instruction.{table, decode, sizeOf}
@@ -17,7 +18,7 @@ use Rattle.machine.specs.Stack.{pushOf, popOf}
 use Rattle.machine.specs.Control.{haltOf}
 use Rattle.machine.specs.Decide.{effectOf, decideOf}
 use Rattle.machine.specs.Apply.{took, appliedStack, touched, performed, limitsOf, settled}
-use Rattle.machine.specs.PlaceA.{code1, memory1, buffer1, code2, machine2, opcodes3, arguments4, code34, machine5, machineA, stepA, openA}
+use Rattle.machine.specs.PlaceA.{code1, memory1, buffer1, code2, machine2, opcodes3, arguments4, code34, revision4, machine5, machineA, stepA, openA}
 use Rattle.machine.specs.Open.{openedStack, opened, openOf}
 use Rattle.machine.specs.Step.{outcomeBy, stepBy}
 use Rattle.machine.specs.Path.{full, stays, stepLog, pathBy, logFrom}
@@ -40,36 +41,37 @@ pub ourDigest : List ℕ
 ourDigest = 1 ∷ 2 ∷ 3 ∷ 4 ∷ 5 ∷ []
 
 unfoldable pub our : Machine
-our = opened ourDigest ourCode ourMemory 1
+our = opened 1 ourDigest ourCode ourMemory 1
 
 -- a step with no buffer (refused by 1), a run of 0, a trace of 9 with no log (full at once), one with a log for one step, a run of 1, a run of 9
 unfoldable pub asks : List Ask
 asks = step [] ∷ run 0 ∷ trace 9 [] ∷ trace 9 (replicate 1024 0) ∷ run 1 ∷ run 9 ∷ []
 
-our-opens : openOf ourDigest ourCode ourMemory 1 ≡ took our
-unfolding our ourCode ourMemory ourDigest openedStack opened openOf code1 memory1 code2 opcodes3 arguments4 code34 openA table decode placeFrom placeOf standsAt find held cells1 cells2 cells5 fallOf fallsOf wordOf2 wordsOf zerosFrom firstOf aboveOf differOf
+our-opens : openOf 1 ourDigest ourCode ourMemory 1 ≡ took our
+unfolding our ourCode ourMemory ourDigest openedStack opened openOf code1 memory1 code2 opcodes3 arguments4 code34 revision4 openA table decode placeFrom placeOf standsAt find held cells1 cells2 cells5 fallOf fallsOf wordOf2 wordsOf zerosFrom firstOf aboveOf differOf
 our-opens = refl
 
 pub our-records : recordsOfJob decideOf our asks ≡ stack 0 16 1 5 ∷ stack 1 16 0 5 ∷ []
-unfolding our asks ourCode ourMemory ourDigest logFrom jobOf askOf pathBy runBy traceA traceBy stepLog logBytes recordBytes bytesOf stepBy buffer1 stepA machineA machine2 machine5 outcomeBy callRecords growing shrinking stackRecords recordsOf openedStack opened code1 memory1 code2 opcodes3 arguments4 code34 appliedStack touched performed limitsOf settled effectOf decideOf pushOf popOf haltOf topOf table decode sizeOf placeFrom placeOf standsAt find held cells1 cells2 cells5 fallOf fallsOf wordOf2 wordsOf zerosFrom firstOf aboveOf differOf
+unfolding our asks ourCode ourMemory ourDigest logFrom jobOf askOf pathBy mostBytes clockBytes runBy traceA traceBy stepLog logBytes recordBytes bytesOf stepBy buffer1 stepA machineA machine2 machine5 outcomeBy callRecords growing shrinking stackRecords recordsOf openedStack opened code1 memory1 code2 opcodes3 arguments4 code34 revision4 appliedStack touched performed limitsOf settled effectOf decideOf pushOf popOf haltOf topOf table decode sizeOf placeFrom placeOf standsAt find held cells1 cells2 cells5 fallOf fallsOf wordOf2 wordsOf zerosFrom firstOf aboveOf differOf
 our-records = refl
 
 pub our-steps : length (jobOf decideOf our asks) ≡ 3
-unfolding our asks ourCode ourMemory ourDigest jobOf askOf pathBy runBy traceA traceBy stepLog logBytes recordBytes bytesOf stepBy buffer1 stepA machineA machine2 machine5 outcomeBy callRecords growing shrinking stackRecords recordsOf openedStack opened code1 memory1 code2 opcodes3 arguments4 code34 appliedStack touched performed limitsOf settled effectOf decideOf pushOf popOf haltOf topOf table decode sizeOf placeFrom placeOf standsAt find held cells1 cells2 cells5 fallOf fallsOf wordOf2 wordsOf zerosFrom firstOf aboveOf differOf
+unfolding our asks ourCode ourMemory ourDigest jobOf askOf pathBy mostBytes clockBytes runBy traceA traceBy stepLog logBytes recordBytes bytesOf stepBy buffer1 stepA machineA machine2 machine5 outcomeBy callRecords growing shrinking stackRecords recordsOf openedStack opened code1 memory1 code2 opcodes3 arguments4 code34 revision4 appliedStack touched performed limitsOf settled effectOf decideOf pushOf popOf haltOf topOf table decode sizeOf placeFrom placeOf standsAt find held cells1 cells2 cells5 fallOf fallsOf wordOf2 wordsOf zerosFrom firstOf aboveOf differOf
 our-steps = refl
 
 -- the first trace takes no step, the second the job's first one
 pub our-traced : (askOf decideOf our (trace 9 []) ≡ stays full our) × (logFrom decideOf our (askOf decideOf our (trace 9 (replicate 1024 0)) .machines) ≡ stack 0 16 1 5 ∷ [])
-unfolding our ourCode ourMemory ourDigest logFrom askOf pathBy runBy traceA traceBy stepLog logBytes recordBytes bytesOf stepBy buffer1 stepA machineA machine2 machine5 outcomeBy callRecords growing shrinking stackRecords recordsOf openedStack opened code1 memory1 code2 opcodes3 arguments4 code34 appliedStack touched performed limitsOf settled effectOf decideOf pushOf popOf haltOf topOf table decode sizeOf placeFrom placeOf standsAt find held cells1 cells2 cells5 fallOf fallsOf wordOf2 wordsOf zerosFrom firstOf aboveOf differOf
+unfolding our ourCode ourMemory ourDigest logFrom askOf pathBy mostBytes clockBytes runBy traceA traceBy stepLog logBytes recordBytes bytesOf stepBy buffer1 stepA machineA machine2 machine5 outcomeBy callRecords growing shrinking stackRecords recordsOf openedStack opened code1 memory1 code2 opcodes3 arguments4 code34 revision4 appliedStack touched performed limitsOf settled effectOf decideOf pushOf popOf haltOf topOf table decode sizeOf placeFrom placeOf standsAt find held cells1 cells2 cells5 fallOf fallsOf wordOf2 wordsOf zerosFrom firstOf aboveOf differOf
 our-traced = (refl, refl)
 
-our-short : length (logBytes (stack 0 16 1 5 ∷ stack 1 16 0 5 ∷ [])) ≤ 16777216
+our-short : length (logBytes (our .state .revision) (stack 0 16 1 5 ∷ stack 1 16 0 5 ∷ [])) ≤ 16777216
 unfolding logBytes recordBytes bytesOf
 our-short = lit≤ tt
 
 pub our-case : Case decideOf our (M.ram our) asks 2
 our-case =
     record {
+      revision = 1;
       digest = ourDigest;
       code = ourCode;
       memory = ourMemory;
@@ -80,7 +82,7 @@ our-case =
       clock = omega (arith, our-steps);
     }
 
-pub our-rebuilt : Rebuilt (replayed our (M.ram our) (logBytes (recordsOfJob decideOf our asks)) 2) (machineAt decideOf our asks 2)
+pub our-rebuilt : Rebuilt (replayed our (M.ram our) (logBytes (our .state .revision) (recordsOfJob decideOf our asks)) 2) (machineAt decideOf our asks 2)
 our-rebuilt = demand-3-of-triton .rebuilds our (M.ram our) asks 2 our-case
 
 -- the read's value altered to the bytes of 6
@@ -98,7 +100,7 @@ six-other : six ≡ bytesOf 8 5 → ⊥
 unfolding bytesOf
 six-other e = let z : _≡_ {A = ℕ} 6 5 = cc in absurd (omega arith)
 
-pub our-detected : replayed our (M.ram our) (logBytes (stack 0 16 1 5 ∷ []) ++ altered (stack 1 16 0 5) six ++ logBytes []) 2 .number ≡ 43
+pub our-detected : replayed our (M.ram our) (logBytes (our .state .revision) (stack 0 16 1 5 ∷ []) ++ altered (our .state .revision) (stack 1 16 0 5) six ++ logBytes (our .state .revision) []) 2 .number ≡ 43
 our-detected =
     ap (λ r. r .number) (demand-3-of-triton .detects our (M.ram our) asks 2 our-case (stack 0 16 1 5 ∷ []) [] (stack 1 16 0 5) 5 six our-records (ofStack (lit< tt)) six-bytes refl six-other)
     ∙ six-word

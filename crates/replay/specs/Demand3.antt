@@ -12,7 +12,7 @@ use Rattle.machine.specs.Effect.{Decision}
 use Rattle.machine.specs.Decide.{decideOf}
 use Rattle.machine.specs.Apply.{took}
 use Rattle.machine.specs.Bytes.{Bytes, bytesOf, isWord}
-use Rattle.machine.specs.Records.{Record, other, stack, ram, recordBytes, logBytes}
+use Rattle.machine.specs.Records.{Record, other, timed, stack, ram, recordBytes, logBytes}
 use Rattle.machine.specs.Open.{openOf}
 use Rattle.replay.specs.Replay.{Replayed, replayOf, refuses}
 use Rattle.replay.specs.Job.{Ask, jobOf, recordsOfJob, machineAt}
@@ -33,41 +33,44 @@ pub data Read (j : ℕ) : Record → ℕ → Type 0 where
   ofStack : {t q v : ℕ} → t < j → Read j (stack t q 0 v) v
   ofRam : {t a v : ℕ} → t < j → Read j (ram t a v 0) v
 
--- the record's bytes with these eight in place of its value
-unfoldable pub altered : Record → List ℕ → List ℕ
-altered (other k b) w = recordBytes (other k b)
-altered (stack t q d v) w = bytesOf 2 23 ++ bytesOf 2 4 ++ bytesOf 4 t ++ bytesOf 8 q ++ (d ∷ w)
-altered (ram t a v d) w = bytesOf 2 23 ++ bytesOf 2 5 ++ bytesOf 4 t ++ bytesOf 8 a ++ w ++ (d ∷ [])
+-- the record's bytes in a log of revision v, with these eight in place of its value
+unfoldable pub altered : ℕ → Record → List ℕ → List ℕ
+altered v (other k b) w = recordBytes v (other k b)
+altered v (timed k t b) w = recordBytes v (timed k t b)
+altered v (stack t q d x) w = bytesOf 2 23 ++ bytesOf 2 4 ++ bytesOf 4 t ++ bytesOf 8 q ++ (d ∷ w)
+altered v (ram t a x d) w = bytesOf 2 23 ++ bytesOf 2 5 ++ bytesOf 4 t ++ bytesOf 8 a ++ w ++ (d ∷ [])
 
--- "replay from the opening RAM and that log alone, in slices as long as the job's": a stack slice of zeros as long as the op stack
+-- "replay from the opening RAM and that log alone, in slices as long as the job's": a stack slice of zeros as long as the op stack; told the
+-- revision that the opening chose
 abbrev pub replayed : Machine → Cells → List ℕ → ℕ → Replayed
-replayed m c log j = replayOf log c (replicate (length (m .memory .opStack)) 0) j
+replayed m c log j = replayOf (m .state .revision) log c (replicate (length (m .memory .opStack)) 0) j
 
 module _ (decide : Machine → Decision) where
   -- "every list of step and run calls on a freshly opened job, refused ones included": the demand asks for step and run; trace_execution
   -- is more. m is what open left, c the cells lent to replay, whose unused ones are free; "a call log of at most 16 MiB"; "every clock j
   -- from 0 to k"
   pub record Case (m : Machine) (c : Cells) (asks : List Ask) (j : ℕ) : Type 0 where
+    pub revision : ℕ
     pub digest : List ℕ
     pub code : Code
     pub memory : Memory
     pub count : ℕ
-    pub opens : openOf digest code memory count ≡ took m
+    pub opens : openOf revision digest code memory count ≡ took m
     pub same : Alike c (M.ram m)
-    pub short : length (logBytes (recordsOfJob decide m asks)) ≤ longest
+    pub short : length (logBytes (m .state .revision) (recordsOfJob decide m asks)) ≤ longest
     pub clock : j ≤ length (jobOf decide m asks)
 
   pub record Demand3 : Type 0 where
     pub rebuilds :
         (m : Machine) (c : Cells) (asks : List Ask) (j : ℕ) → Case m c asks j →
-        Rebuilt (replayed m c (logBytes (recordsOfJob decide m asks)) j) (machineAt decide m asks j)
+        Rebuilt (replayed m c (logBytes (m .state .revision) (recordsOfJob decide m asks)) j) (machineAt decide m asks j)
     -- "if the value of any one memory read logged at a clock below j is altered, to any other eight bytes and with all else
     -- kept, replay refuses": with 40 if they are no word's, else with 43
     pub detects :
         (m : Machine) (c : Cells) (asks : List Ask) (j : ℕ) → Case m c asks j →
         (before after : List Record) (r : Record) (v : ℕ) (b : List ℕ) → recordsOfJob decide m asks ≡ before ++ r ∷ after → Read j r v →
         Bytes b → length b ≡ 8 → (b ≡ bytesOf 8 v → ⊥) →
-        replayed m c (logBytes before ++ altered r b ++ logBytes after) j
+        replayed m c (logBytes (m .state .revision) before ++ altered (m .state .revision) r b ++ logBytes (m .state .revision) after) j
         ≡ refuses (cond (isWord b) 43 40) (replicate (length (m .memory .opStack)) 0) c
 
 -- of the real machine

@@ -6,12 +6,13 @@ use mathlib.Core.List.{List, [], _∷_}
 use lib.Dec.{eqb}
 use Rattle.choices.specs.Choice.{cond}
 use Rattle.machine.specs.Ram.{Cells, stored}
-use Rattle.machine.specs.Records.{Record, other, stack, ram}
+use Rattle.machine.specs.Records.{Record, other, timed, stack, ram}
 
 -- the last word written to the address a, x where there is none
 unfoldable pub wroteOf : List Record → ℕ → ℕ → ℕ
 wroteOf [] a x = x
 wroteOf (other k s ∷ rs) a x = wroteOf rs a x
+wroteOf (timed k t s ∷ rs) a x = wroteOf rs a x
 wroteOf (stack t q d v ∷ rs) a x = wroteOf rs a x
 wroteOf (ram t b v zero ∷ rs) a x = wroteOf rs a x
 wroteOf (ram t b v (suc d) ∷ rs) a x = wroteOf rs a (cond (eqb a b) v x)
@@ -20,6 +21,7 @@ wroteOf (ram t b v (suc d) ∷ rs) a x = wroteOf rs a (cond (eqb a b) v x)
 unfoldable pub hadOf : List Record → ℕ → Bool → Bool
 hadOf [] a x = x
 hadOf (other k s ∷ rs) a x = hadOf rs a x
+hadOf (timed k t s ∷ rs) a x = hadOf rs a x
 hadOf (stack t q d v ∷ rs) a x = hadOf rs a x
 hadOf (ram t b v zero ∷ rs) a x = hadOf rs a x
 hadOf (ram t b v (suc d) ∷ rs) a x = hadOf rs a (cond (eqb a b) true x)
@@ -28,6 +30,7 @@ hadOf (ram t b v (suc d) ∷ rs) a x = hadOf rs a (cond (eqb a b) true x)
 unfoldable pub wroteAll : Cells → List Record → Cells
 wroteAll c [] = c
 wroteAll c (other k s ∷ rs) = wroteAll c rs
+wroteAll c (timed k t s ∷ rs) = wroteAll c rs
 wroteAll c (stack t q d v ∷ rs) = wroteAll c rs
 wroteAll c (ram t b v zero ∷ rs) = wroteAll c rs
 wroteAll c (ram t b v (suc d) ∷ rs) = wroteAll (stored c b v) rs

@@ -14,12 +14,12 @@ use Rattle.replay_group.specs.declared.group.Sweep.{Sweep}
 use Rattle.replay_scan.specs.declared.scan.Scan.{Scan}
 use Rattle.replay_calls.specs.declared.call.Answer.{Answer}
 use Rattle.replay.specs.Replay.{started, Went, bad, fine, finished, replayA, replayOf}
-use Rattle.replay_scan.specs.Walk.{Walk, Walked}
+use Rattle.replay_scan.specs.Walk.{Log, logOf, Walk, Walked}
 use Rattle.replay_table.specs.Group.{Right, RightAt, WrongAt, Stop, at-end, at-wrong, cellsIn}
 use Rattle.replay_table.specs.Merge.{Sorted}
 use Rattle.replay_table.specs.Group as G
 use Rattle.replay_group.specs.GroupView.{Sweeps}
-use Rattle.replay_scan.specs.Scan.{Scanned, Fine, Fines, of-other, of-stack, of-ram}
+use Rattle.replay_scan.specs.Scan.{Scanned, Fine, Fines, of-other, of-timed, of-stack, of-ram}
 use Rattle.replay_scan.specs.Scan as S
 use Rattle.replay_group.specs.WriteView.{Fitting, Written}
 use Rattle.replay_group.specs.Decided.{Decided, passes, at-read, at-write, Decides, Left, Scans, Rebuilds}
@@ -31,7 +31,7 @@ use Rattle.replay_scan.proofs.Walks.{walk-same}
 use Rattle.replay_scan.proofs.WalkLaws.{walk-place}
 use Rattle.replay_table.proofs.GroupLaws.{apart}
 use Rattle.replay_calls.proofs.PlaceALaws.{accepted}
-use Rattle.replay_calls.proofs.Joined.{Worded, worded-other, worded-stack, worded-ram}
+use Rattle.replay_calls.proofs.Joined.{Worded, worded-other, worded-timed, worded-stack, worded-ram}
 use Rattle.replay_calls.proofs.Decisions.{decided-well, decided-bad}
 
 -- ---- two sweeps
@@ -46,7 +46,7 @@ right-at done [] r rs (G.more h k) = rw (append-nil done) h
 right-at done (x ∷ xs) r rs (G.more h k) = rw (← append-assoc done (x ∷ []) xs) (right-at (done ++ (x ∷ [])) xs r rs k)
 
 -- right records, and a wrong read behind them
-pub record Short (log : List ℕ) (c : Cells) (rs : List Record) (end : ℕ) : Type 0 where
+pub record Short (log : Log) (c : Cells) (rs : List Record) (end : ℕ) : Type 0 where
   pub done : List Record
   pub one : Record
   pub rest : List Record
@@ -55,7 +55,7 @@ pub record Short (log : List ℕ) (c : Cells) (rs : List Record) (end : ℕ) : T
   pub right : Right 0 p c [] done
   pub wrong : WrongAt 0 p c done one
 
-module _ {log : List ℕ} {to : ℕ} {c : Cells} {ks vs s v : List ℕ} {rs : List Record} {r : Sweep} (long : to ≤ length log) (walk : Walk log 0 to rs) (sweep : Sweeps log to c ks vs s v r) where
+module _ {log : Log} {to : ℕ} {c : Cells} {ks vs s v : List ℕ} {rs : List Record} {r : Sweep} (long : to ≤ length (log .bytes)) (walk : Walk log 0 to rs) (sweep : Sweeps log to c ks vs s v r) where
   -- it came to its end
   pub whole : r .end ≡ to → Right 0 p c [] rs × (r .cells ≡ cellsIn 0 p c [] rs)
   whole e =
@@ -84,14 +84,14 @@ module _ {log : List ℕ} {to : ℕ} {c : Cells} {ks vs s v : List ℕ} {rs : Li
       go done w (x ∷ xs) j (at-wrong i) t = absurd (not-both (right-at [] done x xs (rw j at h)) i)
 
 -- the records before its end
-pub walked-again : {log : List ℕ} {to : ℕ} {c : Cells} {ks vs s v : List ℕ} {r : Sweep} → Walked log to → Sweeps log to c ks vs s v r → Walked log (r .end)
+pub walked-again : {log : Log} {to : ℕ} {c : Cells} {ks vs s v : List ℕ} {r : Sweep} → Walked log to → Sweeps log to c ks vs s v r → Walked log (r .end)
 walked-again w h =
     let s = h .swept (w .records) (w .walk) in
     record { records = s .done; walk = s .walk; ends = omega (arith, h .within, w .ends) }
 
 -- ---- the decision
 
-module _ {log : List ℕ} {to number room : ℕ} {c : Cells} {ks vs s v : List ℕ} {r : Sweep} (long : to ≤ length log) (sweep : Sweeps log to c ks vs s v r) (used : c .count ≤ length (c .addresses)) (left : room ≡ length (c .addresses) - c .count) where
+module _ {log : Log} {to number room : ℕ} {c : Cells} {ks vs s v : List ℕ} {r : Sweep} (long : to ≤ length (log .bytes)) (sweep : Sweeps log to c ks vs s v r) (used : c .count ≤ length (c .addresses)) (left : room ≡ length (c .addresses) - c .count) where
   pub decide-full : r .end ≡ to → room < r .cells → Decides log to number c 44
   decide-full e h =
       record {
@@ -139,6 +139,7 @@ words-of (S.Fines.more f h) = W.more (one f) (words-of h)
   where
     one : {r : Record} → Fine r → Worded r
     one of-other = worded-other
+    one of-timed = worded-timed
     one of-stack = worded-stack
     one (of-ram a v d) = worded-ram a
 
@@ -146,19 +147,19 @@ abbrev answer : ℕ → ℕ → ℕ → Answer
 answer n d k = record { number = n; depth = d; cells = k }
 
 -- place A refuses it
-pub call-refused : (log s : List ℕ) (c : Cells) (j n : ℕ) (r : Answer) → n ≡ replayA log c s → (n ≡ 0 → ⊥) → (r .number ≡ n) × (r .depth ≡ 0) × (r .cells ≡ 0) → replayedBy r s c ≡ replayOf log c s j
+pub call-refused : (v : ℕ) (log s : List ℕ) (c : Cells) (j n : ℕ) (r : Answer) → n ≡ replayA v log c s → (n ≡ 0 → ⊥) → (r .number ≡ n) × (r .depth ≡ 0) × (r .cells ≡ 0) → replayedBy r s c ≡ replayOf v log c s j
 unfolding replayOf
-call-refused log s c j n r e h (a, d, k) =
-    let z : eqb (replayA log c s) 0 ≡ false = ne-eqb (replayA log c s) 0 (λ (q : replayA log c s ≡ 0). h (e ∙ q)) in
+call-refused v log s c j n r e h (a, d, k) =
+    let z : eqb (replayA v log c s) 0 ≡ false = ne-eqb (replayA v log c s) 0 (λ (q : replayA v log c s ≡ 0). h (e ∙ q)) in
     rw (z, a, d, k, e)
 
 -- and place A accepts it
-pub opens : (log s : List ℕ) (c : Cells) (fault : ℕ) → fault ≡ replayA log c s → fault ≡ 0 → Sorted c
-opens log s c fault e z =
-    let k = accepted log c s (sym e ∙ z) .sound in
+pub opens : (v : ℕ) (log s : List ℕ) (c : Cells) (fault : ℕ) → fault ≡ replayA v log c s → fault ≡ 0 → Sorted c
+opens v log s c fault e z =
+    let k = accepted v log c s (sym e ∙ z) .sound in
     record { usable = record { ordered = record { within = k .used; ascending = k .ascending }; values = omega (arith, k .used, k .pair) }; pair = k .pair }
 
-pub scans : {log s after : List ℕ} {j : ℕ} {r : Scan} {c : Cells} → Scanned log s j after r → Sorted c → Scans log (r .end) c
+pub scans : {log : Log} {s after : List ℕ} {j : ℕ} {r : Scan} {c : Cells} → Scanned log s j after r → Sorted c → Scans log (r .end) c
 scans h o = record { records = h .records; walk = h .walk; ends = h .inside; fine = h .fine; sorted = o }
 
 -- number 0: the cells that the records take have room
@@ -167,43 +168,43 @@ decided-room (passes h l) e = l
 decided-room (at-read d u q f g w m) e = absurd (omega arith)
 decided-room (at-write d u f g m) e = absurd (omega arith)
 
-pub fitting : {log : List ℕ} {to number : ℕ} {c : Cells} {r : ℕ} → Scans log to c → Decides log to number c r → r ≡ 0 → Fitting log to c
+pub fitting : {log : Log} {to number : ℕ} {c : Cells} {r : ℕ} → Scans log to c → Decides log to number c r → r ≡ 0 → Fitting log to c
 fitting s d e =
     record { records = s .records; walk = s .walk; ends = s .ends; fine = s .fine; sorted = s .sorted; room = decided-room (d .decided (s .records) (s .walk)) e }
 
-module _ (log s after : List ℕ) (c : Cells) (j fault n : ℕ) (scan : Scan) (fault-is : fault ≡ replayA log c s) (nothing : fault ≡ 0)
-    (scanned : Scanned log s j after scan) (decides : Decides log (scan .end) (scan .number) c n) where
+module _ (v : ℕ) (log s after : List ℕ) (c : Cells) (j fault n : ℕ) (scan : Scan) (fault-is : fault ≡ replayA v log c s) (nothing : fault ≡ 0)
+    (scanned : Scanned (logOf v log) s j after scan) (decides : Decides (logOf v log) (scan .end) (scan .number) c n) where
   open-cells : Sorted c
-  open-cells = opens log s c fault fault-is nothing
+  open-cells = opens v log s c fault fault-is nothing
 
-  whole-answer : (w : Went) → replayFrom j (started s c) log ≡ w → replayOf log c s j ≡ finished w s c
+  whole-answer : (w : Went) → replayFrom v j (started s c) log ≡ w → replayOf v log c s j ≡ finished w s c
   unfolding replayOf replayFrom
-  whole-answer w e = let z : replayA log c s ≡ 0 = sym fault-is ∙ nothing in rw (z, e)
+  whole-answer w e = let z : replayA v log c s ≡ 0 = sym fault-is ∙ nothing in rw (z, e)
 
   -- it is refused, and the stack slice is cleared
   pub call-wrong : (n ≡ 0 → ⊥) → (d : Cells) → d ≡ c → (zeros : List ℕ) (r : Answer) → length after ≡ length s → zeros ≡ replicate (length after) 0 →
-      (r .number ≡ n) × (r .depth ≡ 0) × (r .cells ≡ 0) → replayedBy r zeros d ≡ replayOf log c s j
+      (r .number ≡ n) × (r .depth ≡ 0) × (r .cells ≡ 0) → replayedBy r zeros d ≡ replayOf v log c s j
   call-wrong h m q zeros r l z (a, d, k) =
-      let o : zeros ≡ s = z ∙ rw l (sym (accepted log c s (sym fault-is ∙ nothing) .zeros)) in
+      let o : zeros ≡ s = z ∙ rw l (sym (accepted v log c s (sym fault-is ∙ nothing) .zeros)) in
       rw (q, whole-answer (bad n) (decided-bad (scanned .walk) (scanned .rests c) (scanned .ends c) (words-of (scanned .fine)) (open-cells .pair) (open-cells .usable .ordered .within) (decides .decided (scanned .records) (scanned .walk)) h), o, a, d, k)
 
   -- it is rebuilt
-  pub call-right : n ≡ 0 → (k : ℕ) (a v : List ℕ) → Written log (scan .end) c (cells k a v) → replayedBy (answer 0 (scan .depth) k) after (cells k a v) ≡ replayOf log c s j
-  call-right h k a v w =
+  pub call-right : n ≡ 0 → (k : ℕ) (a x : List ℕ) → Written (logOf v log) (scan .end) c (cells k a x) → replayedBy (answer 0 (scan .depth) k) after (cells k a x) ≡ replayOf v log c s j
+  call-right h k a x w =
       rw (whole-answer _ (decided-well (scanned .walk) (scanned .rests c) (scanned .ends c) (words-of (scanned .fine)) (open-cells .pair) (open-cells .usable .ordered .within) (decides .decided (scanned .records) (scanned .walk)) h), ← w .is (scanned .records) (scanned .walk))
 
 -- ---- the table that is left
 
-pub left-none : (log : List ℕ) (to : ℕ) (t : Cells) (s v : List ℕ) → Left log to false t s v
+pub left-none : (log : Log) (to : ℕ) (t : Cells) (s v : List ℕ) → Left log to false t s v
 left-none log to t s v = record { table = λ e. absurd (apart (sym e)) }
 
-pub left-whole : {log : List ℕ} {to : ℕ} {c : Cells} {ks vs s v : List ℕ} {r : Sweep} → Sweeps log to c ks vs s v r → r .end ≡ to → Left log to (eqb (r .groups) 1) (cells (r .n) ks vs) s v
+pub left-whole : {log : Log} {to : ℕ} {c : Cells} {ks vs s v : List ℕ} {r : Sweep} → Sweeps log to c ks vs s v r → r .end ≡ to → Left log to (eqb (r .groups) 1) (cells (r .n) ks vs) s v
 left-whole {r = r} h e = record { table = λ q rs w. h .whole (eqb-true (r .groups) 1 q) e rs w }
 
 -- ---- decided and written
 
-pub rebuilt-not : {log : List ℕ} {to number : ℕ} {c : Cells} {r : ℕ} → Decides log to number c r → (r ≡ 0 → ⊥) → Rebuilds log to number c r c
+pub rebuilt-not : {log : Log} {to number : ℕ} {c : Cells} {r : ℕ} → Decides log to number c r → (r ≡ 0 → ⊥) → Rebuilds log to number c r c
 rebuilt-not d h = record { decides = d; written = λ e. absurd (h e); kept = λ _. refl }
 
-pub rebuilt : {log : List ℕ} {to number : ℕ} {c : Cells} {r : ℕ} {d : Cells} → Decides log to number c r → r ≡ 0 → Written log to c d → Rebuilds log to number c 0 d
+pub rebuilt : {log : Log} {to number : ℕ} {c : Cells} {r : ℕ} {d : Cells} → Decides log to number c r → r ≡ 0 → Written log to c d → Rebuilds log to number c 0 d
 rebuilt {log} {to} {number} {c} h e w = record { decides = rw e at h; written = λ _. w; kept = λ n. absurd (n refl) }

@@ -3,11 +3,11 @@ use mathlib.Core.Path.{_≡_, _∙_}
 use mathlib.Core.List.{List, [], _∷_, _++_, append-assoc}
 use Prim.Native.Nat.{ℕ, _≤_}
 use native.Mathlib.Omega.{arith}
-use lib.ListN.{length, drop}
-use Rattle.machine.specs.Records.{Record}
+use lib.ListN.{length}
+use Rattle.machine.specs.Records.{Record, Parsed}
 use Rattle.replay.specs.Replay.{Built, goes, bad, fine}
 use Rattle.replay.specs.LastWrite.{wroteAll}
-use Rattle.replay_scan.specs.Walk.{Walk}
+use Rattle.replay_scan.specs.Walk.{Log, parseAt, Walk}
 use Rattle.replay_scan.specs.Scan.{restOf, Rests, Ends, at-end, at-break, at-stop, at-fault, at-over}
 use Rattle.replay_scan.specs.Scan as S
 use Rattle.replay_group.specs.Decided.{Decided, passes, at-read, at-write}
@@ -65,11 +65,11 @@ refuses-more rs ss h = record { done = h .done; rest = h .rest ++ ss; one = h .o
 -- ---- what is scanned and decided
 
 -- the scan's row has nothing behind it, or it ended behind a RAM read too many
-data Pending (j : ℕ) (b : Built) (t : List ℕ) : ℕ → ℕ → Type 0 where
+data Pending (j : ℕ) (b : Built) (t : Parsed) : ℕ → ℕ → Type 0 where
   nothing : {n : ℕ} → Ends j b t 0 n → Pending j b t 0 n
   too-many : {n : ℕ} → (n ≡ 0 → ⊥) → Pending j b t n n
 
-pending : {j : ℕ} {b : Built} {t : List ℕ} {m n : ℕ} → Ends j b t m n → Pending j b t m n
+pending : {j : ℕ} {b : Built} {t : Parsed} {m n : ℕ} → Ends j b t m n → Pending j b t m n
 pending (at-end e) = nothing (at-end e)
 pending (at-break e) = nothing (at-break e)
 pending (at-stop e f) = nothing (at-stop e f)
@@ -77,24 +77,24 @@ pending (at-fault e f) = nothing (at-fault e f)
 pending (at-over e) = too-many e
 
 -- the opening o, the scan's records rs of a log up to place `to`, and its stand z there
-module _ {log : List ℕ} {j to n m : ℕ} {o z : Built} {rs : List Record} (walk : Walk log 0 to rs) (rests : Rests j o rs z m) (ends : Ends j z (drop to log) m n)
+module _ {log : Log} {j to n m : ℕ} {o z : Built} {rs : List Record} (walk : Walk log 0 to rs) (rests : Rests j o rs z m) (ends : Ends j z (parseAt log to) m n)
     (words : All Worded rs) (pair : length (o .cells .addresses) ≡ length (o .cells .values)) (room : o .cells .count ≤ length (o .cells .addresses)) where
   -- number 0: it is rebuilt
-  pub decided-well : {r : ℕ} → Decided (o .cells) rs n r → r ≡ 0 → replayFrom j o log ≡ fine (strip (wroteAll (o .cells) rs) z)
+  pub decided-well : {r : ℕ} → Decided (o .cells) rs n r → r ≡ 0 → replayFrom (log .revision) j o (log .bytes) ≡ fine (strip (wroteAll (o .cells) rs) z)
   decided-well (passes h l) e = go (pending ends) rests
     where
-      go : {k : ℕ} → Pending j z (drop to log) k n → Rests j o rs z k → replayFrom j o log ≡ fine (strip (wroteAll (o .cells) rs) z)
-      go (nothing x) r = walk-on walk (fit o z (o .cells) rs W.Reads.none pair r words h l) ∙ ends-well j n (wroteAll (o .cells) rs) z (drop to log) x e
+      go : {k : ℕ} → Pending j z (parseAt log to) k n → Rests j o rs z k → replayFrom (log .revision) j o (log .bytes) ≡ fine (strip (wroteAll (o .cells) rs) z)
+      go (nothing x) r = walk-on walk (fit o z (o .cells) rs W.Reads.none pair r words h l) ∙ ends-well log to j n (wroteAll (o .cells) rs) z x e
       go (too-many x) r = absurd (x e)
   decided-well (at-read d u q f g w i) e = absurd (omega arith)
   decided-well (at-write d u f g i) e = absurd (omega arith)
 
   -- another: it is the answer
-  pub decided-bad : {r : ℕ} → Decided (o .cells) rs n r → (r ≡ 0 → ⊥) → replayFrom j o log ≡ bad r
+  pub decided-bad : {r : ℕ} → Decided (o .cells) rs n r → (r ≡ 0 → ⊥) → replayFrom (log .revision) j o (log .bytes) ≡ bad r
   decided-bad (passes h l) e = go (pending ends) rests
     where
-      go : {k : ℕ} → Pending j z (drop to log) k n → Rests j o rs z k → replayFrom j o log ≡ bad n
-      go (nothing x) r = walk-on walk (fit o z (o .cells) rs W.Reads.none pair r words h l) ∙ ends-bad j n (wroteAll (o .cells) rs) z (drop to log) x e
+      go : {k : ℕ} → Pending j z (parseAt log to) k n → Rests j o rs z k → replayFrom (log .revision) j o (log .bytes) ≡ bad n
+      go (nothing x) r = walk-on walk (fit o z (o .cells) rs W.Reads.none pair r words h l) ∙ ends-bad log to j n (wroteAll (o .cells) rs) z x e
       go (too-many x) r = walk-refused walk (fit-over o z (o .cells) rs x W.Reads.none pair r words h l)
   decided-bad (at-read d u q f g w i) e =
       let k = rests-part d q u (rw f at rests) in

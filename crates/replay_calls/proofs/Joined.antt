@@ -10,12 +10,12 @@ use lib.Dec.{eqb, ltb}
 use Rattle.machine.specs.Words.{p}
 use Rattle.choices.specs.Choice.{cond, firstOf}
 use Rattle.machine.specs.Ram.{Cells, held, has, stored}
-use Rattle.machine.specs.Records.{Record, other, stack, ram}
+use Rattle.machine.specs.Records.{Record, other, timed, stack, ram, Parsed}
 use Rattle.choices.proofs.Choice.{first-zero, first-left, first-nil, above-not, above-is, differ-not, differ-is}
 use Rattle.machine.proofs.RamLaws.{stored-count}
 use Rattle.replay.specs.Replay.{withRam, Built, built, fields40, clock41, ram45, stackFault, ramFault, ramTurn, stops, wrong, goes, judged, readOf, bad, fine, onward, onParsed}
 use Rattle.replay.specs.LastWrite.{wroteAll}
-use Rattle.replay_scan.specs.Walk.{Walk}
+use Rattle.replay_scan.specs.Walk.{Log, parseAt, Walk}
 use Rattle.replay_scan.specs.Scan.{write45, restOf, over45, Rests, Ends, at-end, at-break, at-stop, at-fault, at-over}
 use Rattle.replay_scan.specs.Scan as S
 use Rattle.replay_table.specs.Group.{inside, newIn, cellsIn, RightAt, WrongAt, Right, of-outside}
@@ -31,12 +31,14 @@ use Rattle.replay.proofs.Strip.{strip, same-stack, same-turn}
 -- a RAM record's address is a word
 pub data Worded : Record → Type 0 where
   worded-other : {k : ℕ} {s : List ℕ} → Worded (other k s)
+  worded-timed : {k t : ℕ} {s : List ℕ} → Worded (timed k t s)
   worded-stack : {t q d v : ℕ} → Worded (stack t q d v)
   worded-ram : {t a v d : ℕ} → a < p → Worded (ram t a v d)
 
 -- no fault 43 or 44, by the cells k
 data Fine (k : Cells) : Record → Type 0 where
   fine-other : {n : ℕ} {s : List ℕ} → Fine k (other n s)
+  fine-timed : {n t : ℕ} {s : List ℕ} → Fine k (timed n t s)
   fine-stack : {t q d v : ℕ} → Fine k (stack t q d v)
   fine-read : {t a v : ℕ} → v ≡ held k a → Fine k (ram t a v 0)
   fine-write : {t a v d : ℕ} → stored k a v .count ≤ length (k .addresses) → Fine k (ram t a v (suc d))
@@ -98,6 +100,9 @@ ram-refused j k b y t a v d n e f h =
 rest-read : (j : ℕ) (k : Cells) (b y : Built) (r : Record) → restOf j b r ≡ goes y → over45 (b .counts) r ≡ 0 → Fine k r → readOf j (strip k b) r ≡ goes (strip (wroteAll k (r ∷ [])) y)
 unfolding restOf readOf wroteAll over45
 rest-read j k b y (other n s) e o fine-other = let z : b ≡ y = cc in rw z
+rest-read j k b y (timed n t s) e o fine-timed =
+    let w = judged-went j t _ _ y e in
+    judged-goes j t _ _ (judged-early j t _ _ y e) (w .0) ∙ ap (λ (x : Built). goes (strip k x)) (w .1)
 rest-read j k b y (stack t q d v) e o fine-stack =
     let w = judged-went j t _ _ y e in
     let a = judged-early j t _ _ y e in
@@ -122,6 +127,7 @@ true-false false e f = let z : _≡_ {A = ℕ} 0 1 = cc in omega arith
 takes-one : (c k : Cells) (done : List Record) (r : Record) → Since-open c done k → Worded r → wroteAll k (r ∷ []) .count ≡ k .count + newIn 0 p c done r
 unfolding wroteAll newIn
 takes-one c k done (other n s) o w = omega arith
+takes-one c k done (timed n t s) o w = omega arith
 takes-one c k done (stack t q d v) o w = omega arith
 takes-one c k done (ram t a v zero) o w = omega arith
 takes-one c k done (ram t a v (suc d)) o (worded-ram h) = stored-count k a v ∙ rw (word-inside a h, ← o .has-is a) (go (has k a))
@@ -133,6 +139,7 @@ takes-one c k done (ram t a v (suc d)) o (worded-ram h) = stored-count k a v ∙
 fine-of : (c k : Cells) (done : List Record) (r : Record) → Since-open c done k → Worded r → RightAt 0 p c done r → k .count + newIn 0 p c done r ≤ length (c .addresses) → Fine k r
 unfolding wroteAll
 fine-of c k done (other n s) o w h l = fine-other
+fine-of c k done (timed n t s) o w h l = fine-timed
 fine-of c k done (stack t q d v) o w h l = fine-stack
 fine-of c k done (ram t a v zero) o (worded-ram i) (of-outside e) l = absurd (true-false _ (word-inside a i) e)
 fine-of c k done (ram t a v zero) o w (RightAt.of-read e) l = fine-read (e ∙ sym (o .held-is a))
@@ -146,6 +153,7 @@ fine-of c k done (ram t a v (suc d)) o w h l =
 all-two : (k : Cells) (r : Record) (rs : List Record) → wroteAll (wroteAll k (r ∷ [])) rs ≡ wroteAll k (r ∷ rs)
 unfolding wroteAll
 all-two k (other n s) rs = refl
+all-two k (timed n t s) rs = refl
 all-two k (stack t q d v) rs = refl
 all-two k (ram t a v zero) rs = refl
 all-two k (ram t a v (suc d)) rs = refl
@@ -194,6 +202,7 @@ refuse-over : {j : ℕ} {o : Built} {done : List Record} {m : ℕ} (x y : Built)
     Worded r → RightAt 0 p (o .cells) done r → Refuses j o (done ++ (r ∷ [])) m
 unfolding over45
 refuse-over x y k (other n s) h q e u z w g = absurd (z (sym u))
+refuse-over x y k (timed n t s) h q e u z w g = absurd (z (sym u))
 refuse-over x y k (stack t i d v) h q e u z w g = absurd (z (sym u))
 refuse-over x y k (ram t a v (suc d)) h q e u z w g = absurd (z (sym u))
 refuse-over x y k (ram t a v zero) h q e u z (worded-ram i) (of-outside f) = absurd (true-false _ (word-inside a i) f)
@@ -223,6 +232,7 @@ refuse-write : {j : ℕ} {o : Built} {done : List Record} (x y : Built) (k : Cel
     Refuses j o (done ++ r ∷ rs) 44
 unfolding wroteAll newIn
 refuse-write x y k (other n s) rs h q e w l m = absurd (omega arith)
+refuse-write x y k (timed n t s) rs h q e w l m = absurd (omega arith)
 refuse-write x y k (stack t i d v) rs h q e w l m = absurd (omega arith)
 refuse-write x y k (ram t a v zero) rs h q e w l m = absurd (omega arith)
 refuse-write {j} {o} {done} x y k (ram t a v (suc d)) rs h q e w l m =
@@ -261,26 +271,26 @@ over {j} {o = o} {done} x z k (r ∷ rs) h q (S.more {c = y} e u t) (W.more w ws
 -- ---- over bytes
 
 -- replay of a log from place i, by the records that stand from there on
-pub walk-on : {s : List ℕ} {j i to : ℕ} {b c : Built} {rs : List Record} → Walk s i to rs → Reads j b rs c → replayFrom j b (drop i s) ≡ replayFrom j c (drop to s)
+pub walk-on : {s : Log} {j i to : ℕ} {b c : Built} {rs : List Record} → Walk s i to rs → Reads j b rs c → replayFrom (s .revision) j b (drop i (s .bytes)) ≡ replayFrom (s .revision) j c (drop to (s .bytes))
 walk-on Walk.none W.Reads.none = refl
 walk-on {s} {j} {i} {to} {b} (Walk.more n e q l w) (W.Reads.more f h) =
-    replay-turn j b (drop i s)
-    ∙ ap (onParsed b (λ r t. onward b (λ x. replayFrom j x t) (readOf j b r))) e
-    ∙ ap (onward b (λ x. replayFrom j x (drop (i + n) s))) f
+    replay-turn (s .revision) j b (drop i (s .bytes))
+    ∙ ap (onParsed b (λ r t. onward b (λ x. replayFrom (s .revision) j x t) (readOf j b r))) e
+    ∙ ap (onward b (λ x. replayFrom (s .revision) j x (drop (i + n) (s .bytes)))) f
     ∙ walk-on w h
 
-walk-bad : {s : List ℕ} {j i to n : ℕ} {b c : Built} (r : Record) (done rest : List Record) → Walk s i to (done ++ r ∷ rest) → Reads j b done c → readOf j c r ≡ wrong n → replayFrom j b (drop i s) ≡ bad n
+walk-bad : {s : Log} {j i to n : ℕ} {b c : Built} (r : Record) (done rest : List Record) → Walk s i to (done ++ r ∷ rest) → Reads j b done c → readOf j c r ≡ wrong n → replayFrom (s .revision) j b (drop i (s .bytes)) ≡ bad n
 walk-bad {s} {j} {i} {b = b} r [] rest (Walk.more m e q l w) W.Reads.none f =
-    replay-turn j b (drop i s)
-    ∙ ap (onParsed b (λ r t. onward b (λ x. replayFrom j x t) (readOf j b r))) e
-    ∙ ap (onward b (λ x. replayFrom j x (drop (i + m) s))) f
+    replay-turn (s .revision) j b (drop i (s .bytes))
+    ∙ ap (onParsed b (λ r t. onward b (λ x. replayFrom (s .revision) j x t) (readOf j b r))) e
+    ∙ ap (onward b (λ x. replayFrom (s .revision) j x (drop (i + m) (s .bytes)))) f
 walk-bad {s} {j} {i} {b = b} r (x ∷ done) rest (Walk.more m e q l w) (W.Reads.more g h) f =
-    replay-turn j b (drop i s)
-    ∙ ap (onParsed b (λ r t. onward b (λ x. replayFrom j x t) (readOf j b r))) e
-    ∙ ap (onward b (λ x. replayFrom j x (drop (i + m) s))) g
+    replay-turn (s .revision) j b (drop i (s .bytes))
+    ∙ ap (onParsed b (λ r t. onward b (λ x. replayFrom (s .revision) j x t) (readOf j b r))) e
+    ∙ ap (onward b (λ x. replayFrom (s .revision) j x (drop (i + m) (s .bytes)))) g
     ∙ walk-bad r done rest w h f
 
-pub walk-refused : {s : List ℕ} {j i to n : ℕ} {o : Built} {rs : List Record} → Walk s i to rs → Refuses j o rs n → replayFrom j o (drop i s) ≡ bad n
+pub walk-refused : {s : Log} {j i to n : ℕ} {o : Built} {rs : List Record} → Walk s i to rs → Refuses j o rs n → replayFrom (s .revision) j o (drop i (s .bytes)) ≡ bad n
 walk-refused w h = walk-bad (h .one) (h .done) (h .rest) (rw (h .joined) at w) (h .reads) (h .says)
 
 -- ---- where the scan ends
@@ -308,6 +318,7 @@ judged-faulty j t n m x e = go (ltb t j) (eqb n 0) refl refl e
 rest-stops : (j : ℕ) (k : Cells) (b : Built) (r : Record) → restOf j b r ≡ stops → readOf j (strip k b) r ≡ stops
 unfolding restOf readOf
 rest-stops j k b (other n s) e = let z : _≡_ {A = ℕ} 0 1 = cc in absurd (omega arith)
+rest-stops j k b (timed n t s) e = judged-stops j t _ _ (judged-late j t _ _ e)
 rest-stops j k b (stack t q d v) e = judged-stops j t _ _ (judged-late j t _ _ e)
 rest-stops j k b (ram t a v d) e = judged-stops j t _ _ (judged-late j t _ _ e)
 
@@ -325,6 +336,9 @@ stays-behind a b c x n e h = go (eqb a 0) (eqb b 0) (eqb c 0) refl refl refl e
 rest-wrong : (j n : ℕ) (k : Cells) (b : Built) (r : Record) → restOf j b r ≡ wrong n → readOf j (strip k b) r ≡ wrong n
 unfolding restOf readOf ramFault write45
 rest-wrong j n k b (other m s) e = let z : _≡_ {A = ℕ} 0 1 = cc in absurd (omega arith)
+rest-wrong j n k b (timed m t s) e =
+    let f = judged-faulty j t _ n _ e in
+    judged-wrong j t _ _ (f .0) (λ i. f .2 (sym (f .1) ∙ i)) ∙ ap wrong (f .1)
 rest-wrong j n k b (stack t q d v) e =
     let f = judged-faulty j t _ n _ e in
     let z : firstOf (fields40 d q v) (firstOf (clock41 (b .counts) t) (stackFault (strip k b) t q d v)) ≡ n = rw (same-stack k b t q d v) (f .1) in
@@ -344,25 +358,24 @@ rest-wrong j n k b (ram t a v (suc d)) e =
 wrong-not : (j n : ℕ) (b : Built) (r : Record) → restOf j b r ≡ wrong n → n ≡ 0 → ⊥
 unfolding restOf
 wrong-not j n b (other m s) e = let z : _≡_ {A = ℕ} 0 1 = cc in absurd (omega arith)
+wrong-not j n b (timed m t s) e = judged-faulty j t _ n _ e .2
 wrong-not j n b (stack t q d v) e = judged-faulty j t _ n _ e .2
 wrong-not j n b (ram t a v d) e = judged-faulty j t _ n _ e .2
 
-pub ends-well : (j n : ℕ) (k : Cells) (b : Built) (t : List ℕ) → Ends j b t 0 n → n ≡ 0 → replayFrom j (strip k b) t ≡ fine (strip k b)
-ends-well j n k b t (at-end e) z = replay-turn j (strip k b) t ∙ ap (onParsed (strip k b) (λ r u. onward (strip k b) (λ x. replayFrom j x u) (readOf j (strip k b) r))) e
-ends-well j n k b t (at-break e) z = absurd (omega arith)
-ends-well j n k b t (at-stop {r = r} {u = u} e f) z =
-    replay-turn j (strip k b) t
-    ∙ ap (onParsed (strip k b) (λ r u. onward (strip k b) (λ x. replayFrom j x u) (readOf j (strip k b) r))) e
-    ∙ ap (onward (strip k b) (λ x. replayFrom j x u)) (rest-stops j k b r f)
-ends-well j n k b t (at-fault {r = r} e f) z = absurd (wrong-not j n b r f z)
-ends-well j n k b t (at-over m) z = absurd (m refl)
+-- one turn at a place of the log
+turn-at : (s : Log) (i j : ℕ) (b : Built) {q : Parsed} → parseAt s i ≡ q → replayFrom (s .revision) j b (drop i (s .bytes)) ≡ onParsed b (λ r u. onward b (λ x. replayFrom (s .revision) j x u) (readOf j b r)) q
+turn-at s i j b e = replay-turn (s .revision) j b (drop i (s .bytes)) ∙ ap (onParsed b (λ r u. onward b (λ x. replayFrom (s .revision) j x u) (readOf j b r))) e
 
-pub ends-bad : (j n : ℕ) (k : Cells) (b : Built) (t : List ℕ) → Ends j b t 0 n → (n ≡ 0 → ⊥) → replayFrom j (strip k b) t ≡ bad n
-ends-bad j n k b t (at-end e) z = absurd (z refl)
-ends-bad j n k b t (at-break e) z = replay-turn j (strip k b) t ∙ ap (onParsed (strip k b) (λ r u. onward (strip k b) (λ x. replayFrom j x u) (readOf j (strip k b) r))) e
-ends-bad j n k b t (at-stop e f) z = absurd (z refl)
-ends-bad j n k b t (at-fault {r = r} {u = u} e f) z =
-    replay-turn j (strip k b) t
-    ∙ ap (onParsed (strip k b) (λ r u. onward (strip k b) (λ x. replayFrom j x u) (readOf j (strip k b) r))) e
-    ∙ ap (onward (strip k b) (λ x. replayFrom j x u)) (rest-wrong j n k b r f)
-ends-bad j n k b t (at-over m) z = absurd (m refl)
+pub ends-well : (s : Log) (i j n : ℕ) (k : Cells) (b : Built) → Ends j b (parseAt s i) 0 n → n ≡ 0 → replayFrom (s .revision) j (strip k b) (drop i (s .bytes)) ≡ fine (strip k b)
+ends-well s i j n k b (at-end e) z = turn-at s i j (strip k b) e
+ends-well s i j n k b (at-break e) z = absurd (omega arith)
+ends-well s i j n k b (at-stop {r = r} {u = u} e f) z = turn-at s i j (strip k b) e ∙ ap (onward (strip k b) (λ x. replayFrom (s .revision) j x u)) (rest-stops j k b r f)
+ends-well s i j n k b (at-fault {r = r} e f) z = absurd (wrong-not j n b r f z)
+ends-well s i j n k b (at-over m) z = absurd (m refl)
+
+pub ends-bad : (s : Log) (i j n : ℕ) (k : Cells) (b : Built) → Ends j b (parseAt s i) 0 n → (n ≡ 0 → ⊥) → replayFrom (s .revision) j (strip k b) (drop i (s .bytes)) ≡ bad n
+ends-bad s i j n k b (at-end e) z = absurd (z refl)
+ends-bad s i j n k b (at-break e) z = turn-at s i j (strip k b) e
+ends-bad s i j n k b (at-stop e f) z = absurd (z refl)
+ends-bad s i j n k b (at-fault {r = r} {u = u} e f) z = turn-at s i j (strip k b) e ∙ ap (onward (strip k b) (λ x. replayFrom (s .revision) j x u)) (rest-wrong j n k b r f)
+ends-bad s i j n k b (at-over m) z = absurd (m refl)

@@ -1,8 +1,8 @@
-// Replay: a log read up to a clock rebuilds depth, the words below the top sixteen and RAM, or is refused. All is decided
+// Replay: a log of a revision, read up to a clock, rebuilds depth, the words below the top sixteen and RAM, or is refused. All is decided
 // before RAM is written.
 ghost use mathlib.Core.Path.{_≡_};
 ghost use Rattle.machine.specs.Ram.{cells as cellsOf};
-ghost use Rattle.replay_scan.specs.Walk.{Walked};
+ghost use Rattle.replay_scan.specs.Walk.{Walked, logOf};
 ghost use Rattle.replay_table.specs.Merge.{Sorted};
 ghost use Rattle.replay_group.specs.GroupView.{Lent};
 ghost use Rattle.replay_group.specs.Decided.{Decides, Left, Scans, Rebuilds};
@@ -39,6 +39,7 @@ struct Rebuilt {
 // records before that take do not fit.
 fn decide(
     log: &[u8],
+    revision: u64,
     to: usize,
     number: u64,
     addresses: &[u64],
@@ -49,11 +50,22 @@ fn decide(
     lkeys: &mut [u64],
     lvals: &mut [u64],
 ) -> Decision
-    requires { ⌜ Walked (now log) to × Sorted (cellsOf count (now addresses) (now values)) × Lent (now keys) (now vals) (now lkeys) (now lvals) ⌝ }
-    ensures { λ r. ⌜ Decides (now (log .entry)) to number (cellsOf count (now (addresses .entry)) (now (values .entry))) (r .number) × Left (now (log .entry)) to (r .whole) (cellsOf (r .n) (now (keys .exit)) (now (vals .exit))) (now (lkeys .exit)) (now (lvals .exit)) ⌝ }
+    requires { ⌜ Walked (logOf revision (now log)) to × Sorted (cellsOf count (now addresses) (now values)) × Lent (now keys) (now vals) (now lkeys) (now lvals) ⌝ }
+    ensures { λ r. ⌜ Decides (logOf revision (now (log .entry))) to number (cellsOf count (now (addresses .entry)) (now (values .entry))) (r .number) × Left (logOf revision (now (log .entry))) to (r .whole) (cellsOf (r .n) (now (keys .exit)) (now (vals .exit))) (now (lkeys .exit)) (now (lvals .exit)) ⌝ }
 {
     let room = addresses.len() - count;
-    let all = sweep_all(log, to, addresses, values, count, keys, vals, lkeys, lvals);
+    let all = sweep_all(
+        log,
+        revision,
+        to,
+        addresses,
+        values,
+        count,
+        keys,
+        vals,
+        lkeys,
+        lvals,
+    );
     if all.end == to {
         if room < all.cells {
             return Decision {
@@ -70,6 +82,7 @@ fn decide(
     }
     let right = sweep_all(
         log,
+        revision,
         all.end,
         addresses,
         values,
@@ -96,6 +109,7 @@ fn decide(
 // Decides, and brings the writes into RAM where the log is not refused.
 fn rebuild(
     log: &[u8],
+    revision: u64,
     to: usize,
     number: u64,
     addresses: &mut [u64],
@@ -106,11 +120,12 @@ fn rebuild(
     lkeys: &mut [u64],
     lvals: &mut [u64],
 ) -> Rebuilt
-    requires { ⌜ Scans (now log) to (cellsOf count (now addresses) (now values)) × Lent (now keys) (now vals) (now lkeys) (now lvals) ⌝ }
-    ensures { λ r. ⌜ Rebuilds (now (log .entry)) to number (cellsOf count (now (addresses .entry)) (now (values .entry))) (r .number) (cellsOf (r .cells) (now (addresses .exit)) (now (values .exit))) ⌝ }
+    requires { ⌜ Scans (logOf revision (now log)) to (cellsOf count (now addresses) (now values)) × Lent (now keys) (now vals) (now lkeys) (now lvals) ⌝ }
+    ensures { λ r. ⌜ Rebuilds (logOf revision (now (log .entry))) to number (cellsOf count (now (addresses .entry)) (now (values .entry))) (r .number) (cellsOf (r .cells) (now (addresses .exit)) (now (values .exit))) ⌝ }
 {
     let d = decide(
         log,
+        revision,
         to,
         number,
         addresses,
@@ -129,6 +144,7 @@ fn rebuild(
     }
     let used = write_back(
         log,
+        revision,
         to,
         addresses,
         values,
@@ -159,14 +175,15 @@ fn refused(number: u64) -> Answer
 // With a small table, which is soon made.
 fn by_small_table(
     log: &[u8],
+    revision: u64,
     to: usize,
     number: u64,
     addresses: &mut [u64],
     values: &mut [u64],
     count: usize,
 ) -> Rebuilt
-    requires { ⌜ Scans (now log) to (cellsOf count (now addresses) (now values)) ⌝ }
-    ensures { λ r. ⌜ Rebuilds (now (log .entry)) to number (cellsOf count (now (addresses .entry)) (now (values .entry))) (r .number) (cellsOf (r .cells) (now (addresses .exit)) (now (values .exit))) ⌝ }
+    requires { ⌜ Scans (logOf revision (now log)) to (cellsOf count (now addresses) (now values)) ⌝ }
+    ensures { λ r. ⌜ Rebuilds (logOf revision (now (log .entry))) to number (cellsOf count (now (addresses .entry)) (now (values .entry))) (r .number) (cellsOf (r .cells) (now (addresses .exit)) (now (values .exit))) ⌝ }
 {
     let mut keys = [0u64; 512];
     let mut vals = [0u64; 512];
@@ -174,6 +191,7 @@ fn by_small_table(
     let mut lvals = [0u64; 32];
     rebuild(
         log,
+        revision,
         to,
         number,
         addresses,
@@ -189,14 +207,15 @@ fn by_small_table(
 // With a table of some 200 KiB.
 fn by_large_table(
     log: &[u8],
+    revision: u64,
     to: usize,
     number: u64,
     addresses: &mut [u64],
     values: &mut [u64],
     count: usize,
 ) -> Rebuilt
-    requires { ⌜ Scans (now log) to (cellsOf count (now addresses) (now values)) ⌝ }
-    ensures { λ r. ⌜ Rebuilds (now (log .entry)) to number (cellsOf count (now (addresses .entry)) (now (values .entry))) (r .number) (cellsOf (r .cells) (now (addresses .exit)) (now (values .exit))) ⌝ }
+    requires { ⌜ Scans (logOf revision (now log)) to (cellsOf count (now addresses) (now values)) ⌝ }
+    ensures { λ r. ⌜ Rebuilds (logOf revision (now (log .entry))) to number (cellsOf count (now (addresses .entry)) (now (values .entry))) (r .number) (cellsOf (r .cells) (now (addresses .exit)) (now (values .exit))) ⌝ }
 {
     let mut keys = [0u64; 12288];
     let mut vals = [0u64; 12288];
@@ -204,6 +223,7 @@ fn by_large_table(
     let mut lvals = [0u64; 512];
     rebuild(
         log,
+        revision,
         to,
         number,
         addresses,
@@ -220,6 +240,7 @@ fn by_large_table(
 // table has cells.
 fn by_table(
     log: &[u8],
+    revision: u64,
     to: usize,
     number: u64,
     ram: u64,
@@ -227,8 +248,8 @@ fn by_table(
     values: &mut [u64],
     count: usize,
 ) -> Rebuilt
-    requires { ⌜ Scans (now log) to (cellsOf count (now addresses) (now values)) × Quiet (now log) to ram ⌝ }
-    ensures { λ r. ⌜ Rebuilds (now (log .entry)) to number (cellsOf count (now (addresses .entry)) (now (values .entry))) (r .number) (cellsOf (r .cells) (now (addresses .exit)) (now (values .exit))) ⌝ }
+    requires { ⌜ Scans (logOf revision (now log)) to (cellsOf count (now addresses) (now values)) × Quiet (logOf revision (now log)) to ram ⌝ }
+    ensures { λ r. ⌜ Rebuilds (logOf revision (now (log .entry))) to number (cellsOf count (now (addresses .entry)) (now (values .entry))) (r .number) (cellsOf (r .cells) (now (addresses .exit)) (now (values .exit))) ⌝ }
 {
     if ram == 0 {
         return Rebuilt {
@@ -237,13 +258,14 @@ fn by_table(
         };
     }
     if to < 12800 {
-        return by_small_table(log, to, number, addresses, values, count);
+        return by_small_table(log, revision, to, number, addresses, values, count);
     }
-    by_large_table(log, to, number, addresses, values, count)
+    by_large_table(log, revision, to, number, addresses, values, count)
 }
 
 pub fn replay(
     log: &[u8],
+    revision: u64,
     addresses: &mut [u64],
     values: &mut [u64],
     count: usize,
@@ -251,15 +273,16 @@ pub fn replay(
     clock: u64,
 ) -> Answer
     ensures { λ r. ⌜ replayedBy r (now (words .exit)) (cellsOf (r .cells) (now (addresses .exit)) (now (values .exit)))
-        ≡ replayOf (now (log .entry)) (cellsOf count (now (addresses .entry)) (now (values .entry))) (now (words .entry)) clock ⌝ }
+        ≡ replayOf revision (now (log .entry)) (cellsOf count (now (addresses .entry)) (now (values .entry))) (now (words .entry)) clock ⌝ }
 {
-    let fault = check_replay(log, addresses, values, count, words);
+    let fault = check_replay(log, revision, addresses, values, count, words);
     if fault != 0 {
         return refused(fault);
     }
-    let scan = scan_log(log, words, clock);
+    let scan = scan_log(log, revision, words, clock);
     let r = by_table(
         log,
+        revision,
         scan.end,
         scan.number,
         scan.ram,

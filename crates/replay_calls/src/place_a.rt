@@ -11,12 +11,13 @@ use machine_place_a::checks;
 // The log is looked at by its length alone.
 pub fn check_replay(
     log: &[u8],
+    revision: u64,
     addresses: &[u64],
     values: &[u64],
     count: usize,
     words: &[u64],
 ) -> u64
-    ensures { λ r. ⌜ r ≡ replayA (now (log .entry)) (cells count (now (addresses .entry)) (now (values .entry))) (now (words .entry)) ⌝ }
+    ensures { λ r. ⌜ r ≡ replayA revision (now (log .entry)) (cells count (now (addresses .entry)) (now (values .entry))) (now (words .entry)) ⌝ }
 {
     let lent = first(
         checks::cell_lengths(addresses, values),
@@ -30,10 +31,11 @@ pub fn check_replay(
     if 0 < used {
         return used;
     }
-    first(
+    let rest = first(
         checks::used_cells(addresses, count),
         checks::unused_words(words, 0),
-    )
+    );
+    checks::unknown_revision(revision, rest)
 }
 
 pub fn clear(words: &mut [u64])

@@ -13,7 +13,7 @@ use Rattle.machine.specs.Records.{Record}
 use Rattle.replay_scan.specs.declared.record.Head.{Head}
 use Rattle.replay.specs.LastWrite.{wroteOf, hadOf}
 use Rattle.replay_scan.specs.RecordView.{recordAt, Headed}
-use Rattle.replay_scan.specs.Walk.{Walk, none, Walked}
+use Rattle.replay_scan.specs.Walk.{Log, Walk, none, Walked}
 use Rattle.replay_table.specs.Merge.{Merged}
 use Rattle.replay_table.specs.Group.{Right, at-end, at-wrong}
 use Rattle.replay_table.specs.Table.{seen, known, Paired, Table, Makes}
@@ -26,7 +26,7 @@ use Rattle.replay_table.proofs.CellsLaws.{has-none}
 use Rattle.replay_table.proofs.TableLaws.{sorted-none, Roomy, table-made, turn-right, turn-wrong, turn-still, turn-table, settled-length, table-settled}
 
 -- of the records rs up to `to` those before the place `at` made the table; where reads are looked at, they are right
-pub record Onward (log : List ℕ) (to : ℕ) (b : Bool) (lo hi : ℕ) (c : Cells) (rs : List Record) (at : ℕ) (t l : Cells) : Type 0 where
+pub record Onward (log : Log) (to : ℕ) (b : Bool) (lo hi : ℕ) (c : Cells) (rs : List Record) (at : ℕ) (t l : Cells) : Type 0 where
   pub done : List Record
   pub rest : List Record
   pub joined : rs ≡ done ++ rest
@@ -53,7 +53,7 @@ table-none lo hi ks vs s v h k =
           };
     }
 
-pub onward-none : {log : List ℕ} {to : ℕ} (b : Bool) (lo hi : ℕ) (c : Cells) {rs : List Record} {ks vs s v : List ℕ} → Lent ks vs s v → Walk log 0 to rs → Onward log to b lo hi c rs 0 (cells 0 ks vs) (cells 0 s v)
+pub onward-none : {log : Log} {to : ℕ} (b : Bool) (lo hi : ℕ) (c : Cells) {rs : List Record} {ks vs s v : List ℕ} → Lent ks vs s v → Walk log 0 to rs → Onward log to b lo hi c rs 0 (cells 0 ks vs) (cells 0 s v)
 onward-none b lo hi c {rs} {ks} {vs} {s} {v} l w =
     record {
       done = [];
@@ -68,7 +68,7 @@ onward-none b lo hi c {rs} {ks} {vs} {s} {v} l w =
 -- ---- a turn
 
 -- room made
-pub onward-made : {log : List ℕ} {to : ℕ} {b : Bool} {lo hi : ℕ} {c : Cells} {rs : List Record} {at : ℕ} {t : Cells} {n : ℕ} {s v : List ℕ} {u : Cells} {m y : ℕ} →
+pub onward-made : {log : Log} {to : ℕ} {b : Bool} {lo hi : ℕ} {c : Cells} {rs : List Record} {at : ℕ} {t : Cells} {n : ℕ} {s v : List ℕ} {u : Cells} {m y : ℕ} →
     (o : Onward log to b lo hi c rs at t (cells n s v)) → Roomy lo hi (o .done) t s v u m y → Onward log to b lo y c rs at u (cells m s v)
 onward-made {lo = lo} {hi} {c} {y = y} o r =
     record {
@@ -81,7 +81,7 @@ onward-made {lo = lo} {hi} {c} {y = y} o r =
       table = r .table;
     }
 
-module _ {log : List ℕ} {to : ℕ} {b : Bool} {lo hi : ℕ} {c : Cells} {rs : List Record} {at : ℕ} {t l : Cells} (o : Onward log to b lo hi c rs at t l) where
+module _ {log : Log} {to : ℕ} {b : Bool} {lo hi : ℕ} {c : Cells} {rs : List Record} {at : ℕ} {t l : Cells} (o : Onward log to b lo hi c rs at t l) where
   pub onward-end : to ≤ at → Gathered log b lo hi c rs at t l
   onward-end h =
       record {
@@ -95,7 +95,7 @@ module _ {log : List ℕ} {to : ℕ} {b : Bool} {lo hi : ℕ} {c : Cells} {rs : 
         all = λ _. walk-end (o .left) h;
       }
 
-  module _ (h : Head) (g : Headed log at h) (m : to ≤ length log) (i : at < to) where
+  module _ (h : Head) (g : Headed log at h) (m : to ≤ length (log .bytes)) (i : at < to) where
     pub next : Next log at to (o .rest) h
     next = walk-next h g m i (o .left)
 
@@ -130,7 +130,7 @@ module _ {log : List ℕ} {to : ℕ} {b : Bool} {lo hi : ℕ} {c : Cells} {rs : 
 -- ---- the loop
 
 -- at a place, with n cells in the table and m late ones
-pub record Going (log : List ℕ) (to : ℕ) (b : Bool) (lo hi : ℕ) (c : Cells) (at n : ℕ) (ks vs : List ℕ) (m : ℕ) (s v : List ℕ) : Type 0 where
+pub record Going (log : Log) (to : ℕ) (b : Bool) (lo hi : ℕ) (c : Cells) (at n : ℕ) (ks vs : List ℕ) (m : ℕ) (s v : List ℕ) : Type 0 where
   pub within : at ≤ to
   pub above : lo < hi
   pub below : hi ≤ p
@@ -138,12 +138,12 @@ pub record Going (log : List ℕ) (to : ℕ) (b : Bool) (lo hi : ℕ) (c : Cells
   pub half : hi < p → length ks / 2 ≤ n
   pub on : (rs : List Record) → Walk log 0 to rs → Onward log to b lo hi c rs at (cells n ks vs) (cells m s v)
 
-pub going-start : {log : List ℕ} {to : ℕ} (b : Bool) {lo : ℕ} (c : Cells) {ks vs s v : List ℕ} → lo < p → Lent ks vs s v → Going log to b lo p c 0 0 ks vs 0 s v
+pub going-start : {log : Log} {to : ℕ} (b : Bool) {lo : ℕ} (c : Cells) {ks vs s v : List ℕ} → lo < p → Lent ks vs s v → Going log to b lo p c 0 0 ks vs 0 s v
 going-start b {lo} c h l =
     record { within = omega arith; above = h; below = omega arith; lent = l; half = λ z. absurd (omega arith); on = λ rs w. onward-none b lo p c l w }
 
 -- with room for one cell more
-pub record Readied (log : List ℕ) (to : ℕ) (b : Bool) (lo hi : ℕ) (c : Cells) (at n : ℕ) (ks vs : List ℕ) (m : ℕ) (s v : List ℕ) : Type 0 where
+pub record Readied (log : Log) (to : ℕ) (b : Bool) (lo hi : ℕ) (c : Cells) (at n : ℕ) (ks vs : List ℕ) (m : ℕ) (s v : List ℕ) : Type 0 where
   pub going : Going log to b lo hi c at n ks vs m s v
   pub cells : Paired (cells n ks vs) (cells m s v)
   pub late : m < length s
@@ -159,7 +159,7 @@ made-half {y} {hi} {n} {n2} {a} {b} f g h l e z = go (ltb y hi) refl
         let x : hi < p = omega arith in
         rw e (omega (arith, g k, h x))
 
-pub going-made : {log : List ℕ} {to : ℕ} {b : Bool} {lo hi : ℕ} {c : Cells} {at n : ℕ} {ks vs : List ℕ} {m : ℕ} {s v : List ℕ} {n2 : ℕ} {ks2 vs2 : List ℕ} {m2 y : ℕ} →
+pub going-made : {log : Log} {to : ℕ} {b : Bool} {lo hi : ℕ} {c : Cells} {at n : ℕ} {ks vs : List ℕ} {m : ℕ} {s v : List ℕ} {n2 : ℕ} {ks2 vs2 : List ℕ} {m2 y : ℕ} →
     Walked log to → Going log to b lo hi c at n ks vs m s v → Makes (cells n ks vs) (cells m s v) hi (cells n2 ks2 vs2) m2 y → Readied log to b lo y c at n2 ks2 vs2 m2 s v
 going-made {n = n} {ks} {vs} {s = s} {v} w g k =
     let o = g .on (w .records) (w .walk) in
@@ -179,7 +179,7 @@ going-made {n = n} {ks} {vs} {s = s} {v} w g k =
       room = r .room;
     }
 
-pub going-next : {log : List ℕ} {to : ℕ} {b : Bool} {lo hi : ℕ} {c : Cells} {at n : ℕ} {ks vs : List ℕ} {m : ℕ} {s v : List ℕ} {w : Bool} {vs2 : List ℕ} {m2 : ℕ} {s2 v2 : List ℕ} →
+pub going-next : {log : Log} {to : ℕ} {b : Bool} {lo hi : ℕ} {c : Cells} {at n : ℕ} {ks vs : List ℕ} {m : ℕ} {s v : List ℕ} {w : Bool} {vs2 : List ℕ} {m2 : ℕ} {s2 v2 : List ℕ} →
     (h : Head) → Headed log at h → Walked log to → at < to → (r : Readied log to b lo hi c at n ks vs m s v) →
     Touches b lo hi c (cells n ks vs) (cells m s v) (recordAt log at (h .kind)) w (cells n ks vs2) (cells m2 s2 v2) → w ≡ false →
     length vs2 ≡ length vs → length s2 ≡ length s → length v2 ≡ length v → Going log to b lo hi c (at + h .size + 2) n ks vs2 m2 s2 v2
@@ -197,7 +197,7 @@ going-next h g q i r t z e f k =
 
 -- ---- the late cells merged
 
-pub gathers-settled : {log : List ℕ} {to : ℕ} {b : Bool} {lo hi : ℕ} {c : Cells} {end : ℕ} {t : Cells} {m : ℕ} {s v : List ℕ} {d : Cells} →
+pub gathers-settled : {log : Log} {to : ℕ} {b : Bool} {lo hi : ℕ} {c : Cells} {end : ℕ} {t : Cells} {m : ℕ} {s v : List ℕ} {d : Cells} →
     Walked log to → Gathers log to b lo hi c end t (cells m s v) → (d .count ≡ t .count + m) × Merged t (cells m s v) d → Gathers log to b lo hi c end d (cells 0 s v)
 gathers-settled {lo = lo} {hi} {t = t} {m} {s} {v} {d} w g (e, k) =
     let o = g .gathered (w .records) (w .walk) .table .cells in

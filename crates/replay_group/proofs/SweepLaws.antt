@@ -8,14 +8,14 @@ use lib.ListN.{length}
 use Rattle.choices.specs.Choice.{cond}
 use Rattle.machine.specs.Words.{p}
 use Rattle.machine.specs.Ram.{Cells, cells, has}
-use Rattle.machine.specs.Records.{Record, other, stack, ram}
-use Rattle.replay_scan.specs.Walk.{Walk, Walked}
+use Rattle.machine.specs.Records.{Record, other, timed, stack, ram}
+use Rattle.replay_scan.specs.Walk.{Log, Walk, Walked, logOf}
 use Rattle.replay.specs.LastWrite.{hadOf}
 use Rattle.replay_table.specs.Merge.{lacked}
 use Rattle.replay_table.specs.Table.{known, Table}
 use Rattle.replay_group.specs.GroupView.{Lent, Gathered, Swept}
 use Rattle.replay_group.specs.declared.group.Sweep.{Sweep}
-use Rattle.replay_table.specs.Group.{inside, distinctIn, newIn, cellsIn, RightAt, of-other, of-stack, of-write, of-outside, Right, none, more, Stop, at-end, at-wrong, Came}
+use Rattle.replay_table.specs.Group.{inside, distinctIn, newIn, cellsIn, RightAt, of-other, of-timed, of-stack, of-write, of-outside, Right, none, more, Stop, at-end, at-wrong, Came}
 use Rattle.replay_table.proofs.CellsLaws.{has-none}
 use Rattle.replay_table.proofs.CountLaws.{cells-lacked, cells-distinct, distinct-few, distinct-part, distinct-both}
 use Rattle.replay_scan.proofs.Walks.{walk-same}
@@ -23,14 +23,14 @@ use Rattle.replay_scan.proofs.WalkLaws.{walk-count}
 use Rattle.replay_table.proofs.GroupLaws.{inside-above, right-both, stop-left, stop-right, cells-both, right-first, cells-append, cells-few}
 
 -- those before the place `end`, of the records rs, and the n cells that they take
-pub record Passed (log : List ℕ) (lo hi : ℕ) (c : Cells) (rs : List Record) (end n : ℕ) : Type 0 where
+pub record Passed (log : Log) (lo hi : ℕ) (c : Cells) (rs : List Record) (end n : ℕ) : Type 0 where
   pub done : List Record
   pub walk : Walk log 0 end done
   pub came : Came lo hi c rs done
   pub takes : n ≡ cellsIn lo hi c [] done
 
 -- below lo, with n cells counted so far
-pub record Sweeping (log : List ℕ) (to lo : ℕ) (c : Cells) (rs : List Record) (end n : ℕ) : Type 0 where
+pub record Sweeping (log : Log) (to lo : ℕ) (c : Cells) (rs : List Record) (end n : ℕ) : Type 0 where
   pub done : List Record
   pub walk : Walk log 0 end done
   pub came : Came 0 lo c rs done
@@ -42,6 +42,7 @@ pub record Sweeping (log : List ℕ) (to lo : ℕ) (c : Cells) (rs : List Record
 module _ (c : Cells) where
   none-at : (done : List Record) (r : Record) → RightAt 0 0 c done r
   none-at done (other k s) = of-other
+  none-at done (timed k t s) = of-timed
   none-at done (stack t q d v) = of-stack
   none-at done (ram t a v zero) = of-outside (inside-above 0 0 a (omega arith))
   none-at done (ram t a v (suc d)) = of-write
@@ -53,6 +54,7 @@ module _ (c : Cells) where
   none-new : (done : List Record) (r : Record) → newIn 0 0 c done r ≡ 0
   unfolding newIn
   none-new done (other k s) = refl
+  none-new done (timed k t s) = refl
   none-new done (stack t q d v) = refl
   none-new done (ram t a v zero) = refl
   none-new done (ram t a v (suc d)) = rw (inside-above 0 0 a (omega arith))
@@ -62,7 +64,7 @@ module _ (c : Cells) where
   none-cells done [] = refl
   none-cells done (r ∷ rs) = omega (arith, none-new done r, none-cells (done ++ (r ∷ [])) rs)
 
-  pub sweep-none : {log : List ℕ} {to : ℕ} {rs : List Record} → Walk log 0 to rs → Sweeping log to 0 c rs to 0
+  pub sweep-none : {log : Log} {to : ℕ} {rs : List Record} → Walk log 0 to rs → Sweeping log to 0 c rs to 0
   sweep-none {rs = rs} w =
       record {
         done = rs;
@@ -89,7 +91,7 @@ module _ (lo hi : ℕ) (l : lo ≤ hi) {c : Cells} {rs : List Record} where
       stop (x ∷ xs) e (at-wrong w) = at-wrong (stop-right 0 lo hi (omega arith) l w)
 
 -- a group from lo to hi, over the records that the groups before have left
-module _ {log : List ℕ} {to lo : ℕ} (hi : ℕ) {c : Cells} {rs : List Record} {end n : ℕ} (w : Walk log 0 to rs) (s : Sweeping log to lo c rs end n) (l : lo ≤ hi)
+module _ {log : Log} {to lo : ℕ} (hi : ℕ) {c : Cells} {rs : List Record} {end n : ℕ} (w : Walk log 0 to rs) (s : Sweeping log to lo c rs end n) (l : lo ≤ hi)
     {last m : ℕ} (p : Passed log lo hi c (s .done) last m) where
   came : Came 0 hi c rs (p .done)
   came = came-more lo hi l (s .came) (p .came)
@@ -136,7 +138,7 @@ module _ {lo hi : ℕ} {done : List Record} {t : Cells} {s v : List ℕ} (k : Ta
   pub table-distinct : t .count ≡ distinctIn lo hi done
   table-distinct = cells-distinct lo hi t done (k .cells .table) table-only table-had
 
-pub passed-by : {log : List ℕ} {lo hi : ℕ} {c : Cells} {rs : List Record} {end : ℕ} {t : Cells} {s v : List ℕ} {n : ℕ} → Gathered log true lo hi c rs end t (cells 0 s v) → n ≡ lacked c t (t .count) → Passed log lo hi c rs end n
+pub passed-by : {log : Log} {lo hi : ℕ} {c : Cells} {rs : List Record} {end : ℕ} {t : Cells} {s v : List ℕ} {n : ℕ} → Gathered log true lo hi c rs end t (cells 0 s v) → n ≡ lacked c t (t .count) → Passed log lo hi c rs end n
 passed-by {c = c} g e =
     record {
       done = g .done;
@@ -148,14 +150,14 @@ passed-by {c = c} g e =
 -- ---- all groups
 
 -- below lo; `groups` of them, of which each but the last has `half` addresses
-pub record Grouping (log : List ℕ) (to lo : ℕ) (c : Cells) (rs : List Record) (end n half groups : ℕ) (t : Cells) (s v : List ℕ) : Type 0 where
+pub record Grouping (log : Log) (to lo : ℕ) (c : Cells) (rs : List Record) (end n half groups : ℕ) (t : Cells) (s v : List ℕ) : Type 0 where
   pub sweeping : Sweeping log to lo c rs end n
   pub few : groups * half ≤ distinctIn 0 lo rs + half
   pub full : lo < p → groups * half ≤ distinctIn 0 lo rs
   pub none : groups ≡ 0 → lo ≡ 0
   pub one : groups ≡ 1 → Table 0 lo (sweeping .done) t (cells 0 s v)
 
-pub grouping-none : {log : List ℕ} {to : ℕ} (c : Cells) {rs : List Record} (half : ℕ) (t : Cells) (s v : List ℕ) → Walk log 0 to rs → Grouping log to 0 c rs to 0 half 0 t s v
+pub grouping-none : {log : Log} {to : ℕ} (c : Cells) {rs : List Record} (half : ℕ) (t : Cells) (s v : List ℕ) → Walk log 0 to rs → Grouping log to 0 c rs to 0 half 0 t s v
 grouping-none c half t s v w =
     record { sweeping = sweep-none c w; few = omega arith; full = λ _. omega arith; none = λ _. refl; one = λ z. absurd (omega arith) }
 
@@ -163,7 +165,7 @@ pub many : (groups half x : ℕ) → groups * half ≤ x → 0 < half → groups
 many groups zero x l h = absurd (omega arith)
 many groups (suc k) x l h = omega arith
 
-module _ {log : List ℕ} {to lo : ℕ} (hi : ℕ) {c : Cells} {rs : List Record} {end n half groups : ℕ} {t : Cells} {s v : List ℕ} (w : Walk log 0 to rs) (g : Grouping log to lo c rs end n half groups t s v)
+module _ {log : Log} {to lo : ℕ} (hi : ℕ) {c : Cells} {rs : List Record} {end n half groups : ℕ} {t : Cells} {s v : List ℕ} (w : Walk log 0 to rs) (g : Grouping log to lo c rs end n half groups t s v)
     {last m : ℕ} {u : Cells} {x y : List ℕ} (a : lo < hi) (d : Gathered log true lo hi c (g .sweeping .done) last u (cells 0 x y)) (e : m ≡ lacked c u (u .count)) where
   pub grouping-fits : n + m ≤ to
   grouping-fits = sweep-fits hi w (g .sweeping) (omega arith) (passed-by d e)
@@ -198,15 +200,19 @@ module _ {log : List ℕ} {to lo : ℕ} (hi : ℕ) {c : Cells} {rs : List Record
 pub lent-again : {ks vs s v ks2 vs2 s2 v2 : List ℕ} → Lent ks vs s v → length ks2 ≡ length ks → length vs2 ≡ length vs → length s2 ≡ length s → length v2 ≡ length v → Lent ks2 vs2 s2 v2
 lent-again l a b c d = record { two = omega (arith, l .two); pair = omega (arith, l .pair); some = omega (arith, l .some); late = omega (arith, l .late) }
 
+-- a place up to which records stand is in the bytes
+pub walked-ends : {v : ℕ} {s : List ℕ} {to : ℕ} → Walked (logOf v s) to → to ≤ length s
+walked-ends w = w .ends
+
 -- a log up to where a sweep has come
-pub sweep-walked : {log : List ℕ} {to lo : ℕ} {c : Cells} {rs : List Record} {end n : ℕ} → to ≤ length log → end ≤ to → Sweeping log to lo c rs end n → Walked log end
+pub sweep-walked : {log : Log} {to lo : ℕ} {c : Cells} {rs : List Record} {end n : ℕ} → to ≤ length (log .bytes) → end ≤ to → Sweeping log to lo c rs end n → Walked log end
 sweep-walked l i s = record { records = s .done; walk = s .walk; ends = omega arith }
 
-pub swept-all : {log : List ℕ} {to : ℕ} {c : Cells} {rs : List Record} {half half2 : ℕ} {t : Cells} {s v : List ℕ} (r : Sweep) → half ≡ half2 → Grouping log to p c rs (r .end) (r .cells) half (r .groups) t s v → Swept log to c rs half2 r
+pub swept-all : {log : Log} {to : ℕ} {c : Cells} {rs : List Record} {half half2 : ℕ} {t : Cells} {s v : List ℕ} (r : Sweep) → half ≡ half2 → Grouping log to p c rs (r .end) (r .cells) half (r .groups) t s v → Swept log to c rs half2 r
 swept-all r e g = record { done = g .sweeping .done; walk = g .sweeping .walk; came = g .sweeping .came; takes = g .sweeping .takes; few = rw e at (g .few) }
 
 -- the one group of all records
-pub swept-whole : {log : List ℕ} {to : ℕ} {c : Cells} {rs : List Record} {end n half groups : ℕ} {t : Cells} {s v : List ℕ} → Walk log 0 to rs → end ≡ to → groups ≡ 1 → Grouping log to p c rs end n half groups t s v → Table 0 p rs t (cells 0 s v)
+pub swept-whole : {log : Log} {to : ℕ} {c : Cells} {rs : List Record} {end n half groups : ℕ} {t : Cells} {s v : List ℕ} → Walk log 0 to rs → end ≡ to → groups ≡ 1 → Grouping log to p c rs end n half groups t s v → Table 0 p rs t (cells 0 s v)
 swept-whole {log} {rs = rs} {t = t} {s} {v} w e i g =
     let z : g .sweeping .done ≡ rs = walk-same (rw e at (g .sweeping .walk)) w in
     subst (λ (x : List Record). Table 0 p x t (cells 0 s v)) z (g .one i)

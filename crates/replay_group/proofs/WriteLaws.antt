@@ -11,10 +11,10 @@ use lib.Dec.{eqb, ltb}
 use Rattle.choices.specs.Choice.{cond}
 use Rattle.machine.specs.Words.{p}
 use Rattle.machine.specs.Ram.{Cells, cells, has, held}
-use Rattle.machine.specs.Records.{Record, other}
+use Rattle.machine.specs.Records.{Record}
 use Rattle.replay.specs.LastWrite.{wroteOf, hadOf, wroteAll}
-use Rattle.replay_scan.specs.Walk.{Walk}
-use Rattle.replay_scan.specs.Scan.{of-other, of-stack, of-ram, Fines, none, more}
+use Rattle.replay_scan.specs.Walk.{Log, Walk}
+use Rattle.replay_scan.specs.Scan.{of-other, of-timed, of-stack, of-ram, Fines, none, more}
 use Rattle.replay_table.specs.Merge.{Sorted, lacked, Lacked, Merging, Merged}
 use Rattle.replay_table.specs.Group.{inside, cellsIn, distinctIn}
 use Rattle.replay_table.specs.Table.{seen, Table}
@@ -38,6 +38,7 @@ high-had : {rs : List Record} → Fines rs → (a : ℕ) → p ≤ a → (x : Bo
 unfolding hadOf
 high-had none a h x = refl
 high-had (more (of-other) fs) a h x = high-had fs a h x
+high-had (more (of-timed) fs) a h x = high-had fs a h x
 high-had (more (of-stack) fs) a h x = high-had fs a h x
 high-had (more (of-ram {d = zero} i j k) fs) a h x = high-had fs a h x
 high-had (more (of-ram {a = b} {d = suc d} i j k) fs) a h x = rw (high-one a b i h) (high-had fs a h x)
@@ -46,6 +47,7 @@ high-wrote : {rs : List Record} → Fines rs → (a : ℕ) → p ≤ a → (x : 
 unfolding wroteOf
 high-wrote none a h x = refl
 high-wrote (more (of-other) fs) a h x = high-wrote fs a h x
+high-wrote (more (of-timed) fs) a h x = high-wrote fs a h x
 high-wrote (more (of-stack) fs) a h x = high-wrote fs a h x
 high-wrote (more (of-ram {d = zero} i j k) fs) a h x = high-wrote fs a h x
 high-wrote (more (of-ram {a = b} {d = suc d} i j k) fs) a h x = rw (high-one a b i h) (high-wrote fs a h x)
@@ -180,10 +182,10 @@ brought-all {c} {rs} {d} b s f r =
         b .held-is a ∙ rw (inside-above 0 p a h) (sym (w .held-is a ∙ high-wrote f a h (held c a)))
 
 -- a table of all records
-pub brought-whole : {log : List ℕ} {to : ℕ} {c : Cells} → (f : Fitting log to c) → {t : Cells} {s v : List ℕ} → Table 0 p (f .records) t (cells 0 s v) → Fits c t
+pub brought-whole : {log : Log} {to : ℕ} {c : Cells} → (f : Fitting log to c) → {t : Cells} {s v : List ℕ} → Table 0 p (f .records) t (cells 0 s v) → Fits c t
 brought-whole {c = c} f k = brought-fits (brought-none c (f .records) (f .sorted)) (omega arith) k (f .room) (omega arith)
 
-pub written-whole : {log : List ℕ} {to : ℕ} {c : Cells} → (f : Fitting log to c) → {t : Cells} {s v : List ℕ} → Table 0 p (f .records) t (cells 0 s v) → {u : Cells} → Brings c t u → Written log to c u
+pub written-whole : {log : Log} {to : ℕ} {c : Cells} → (f : Fitting log to c) → {t : Cells} {s v : List ℕ} → Table 0 p (f .records) t (cells 0 s v) → {u : Cells} → Brings c t u → Written log to c u
 written-whole {c = c} f k {u} r =
     let e = brought-all (brought-more (brought-none c (f .records) (f .sorted)) (omega arith) k r (brought-whole f k)) (f .sorted) (f .fine) (f .room) in
     record { is = λ rs w. e ∙ ap (wroteAll c) (walk-same (f .walk) w) }
@@ -199,11 +201,11 @@ pub record Writing (lo : ℕ) (c : Cells) (rs : List Record) (half groups : ℕ)
 pub writing-none : (c : Cells) (rs : List Record) (half : ℕ) → Sorted c → Writing 0 c rs half 0 c
 writing-none c rs half s = record { brought = brought-none c rs s; few = omega arith; full = λ _. omega arith }
 
-pub writing-few : {log : List ℕ} {to lo : ℕ} {c : Cells} {rs : List Record} {half groups : ℕ} {d : Cells} → Walk log 0 to rs → Writing lo c rs half groups d → 0 < half → lo < p → groups ≤ to
+pub writing-few : {log : Log} {to lo : ℕ} {c : Cells} {rs : List Record} {half groups : ℕ} {d : Cells} → Walk log 0 to rs → Writing lo c rs half groups d → 0 < half → lo < p → groups ≤ to
 writing-few {lo = lo} {rs = rs} {half} {groups} w g h l = omega (arith, many groups half (distinctIn 0 lo rs) (g .full l) h, distinct-few 0 lo rs, walk-count w)
 
 -- without looking at reads a group goes over all records
-pub gathered-all : {log : List ℕ} {lo hi : ℕ} {c : Cells} {rs : List Record} {end : ℕ} {t : Cells} {s v : List ℕ} → Gathered log false lo hi c rs end t (cells 0 s v) → Table lo hi rs t (cells 0 s v)
+pub gathered-all : {log : Log} {lo hi : ℕ} {c : Cells} {rs : List Record} {end : ℕ} {t : Cells} {s v : List ℕ} → Gathered log false lo hi c rs end t (cells 0 s v) → Table lo hi rs t (cells 0 s v)
 gathered-all {lo = lo} {hi} {rs = rs} {t = t} {s} {v} g =
     let e : g .done ≡ rs = sym (g .joined ∙ ap (λ (x : List Record). g .done ++ x) (g .all refl) ∙ append-nil (g .done)) in
     subst (λ (x : List Record). Table lo hi x t (cells 0 s v)) e (g .table)
@@ -236,10 +238,10 @@ pub writing-fits : {lo hi : ℕ} {c : Cells} {rs : List Record} {half groups : �
     c .count + cellsIn 0 p c [] rs ≤ length (c .addresses) → hi ≤ p → Fits d t
 writing-fits g a k r h = brought-fits (g .brought) (omega arith) k r h
 
-pub writing-room : {log : List ℕ} {to : ℕ} {c : Cells} (f : Fitting log to c) {rs : List Record} → Walk log 0 to rs → c .count + cellsIn 0 p c [] rs ≤ length (c .addresses)
+pub writing-room : {log : Log} {to : ℕ} {c : Cells} (f : Fitting log to c) {rs : List Record} → Walk log 0 to rs → c .count + cellsIn 0 p c [] rs ≤ length (c .addresses)
 writing-room {c = c} f w = rw (walk-same (f .walk) w) at (f .room)
 
-pub writing-end : {log : List ℕ} {to : ℕ} {c : Cells} {half groups : ℕ} {d : Cells} (f : Fitting log to c) → ((rs : List Record) → Walk log 0 to rs → Writing p c rs half groups d) → Written log to c d × Few log to half groups
+pub writing-end : {log : Log} {to : ℕ} {c : Cells} {half groups : ℕ} {d : Cells} (f : Fitting log to c) → ((rs : List Record) → Walk log 0 to rs → Writing p c rs half groups d) → Written log to c d × Few log to half groups
 writing-end {c = c} f g =
     let e = brought-all (g (f .records) (f .walk) .brought) (f .sorted) (f .fine) (f .room) in
     (record { is = λ rs w. e ∙ ap (wroteAll c) (walk-same (f .walk) w) }, record { few = λ rs w. g rs w .few })

@@ -8,7 +8,7 @@ use lib.ListN.{length, getD}
 use Rattle.choices.specs.Choice.{cond}
 use Rattle.machine.specs.Words.{p}
 use Rattle.machine.specs.Ram.{Cells, has, held, stored}
-use Rattle.machine.specs.Records.{Record, other, stack, ram}
+use Rattle.machine.specs.Records.{Record, other, timed, stack, ram}
 use Rattle.machine.proofs.RamLaws.{stored-count, stored-addresses, stored-values, has-stored, held-stored}
 use Rattle.replay.specs.LastWrite.{wroteOf, hadOf, wroteAll}
 use Rattle.replay_table.specs.Merge.{Sorted}
@@ -24,6 +24,7 @@ pub all-append : (c : Cells) (rs ss : List Record) → wroteAll c (rs ++ ss) ≡
 unfolding wroteAll
 all-append c [] ss = refl
 all-append c (other k s ∷ rs) ss = all-append c rs ss
+all-append c (timed k t s ∷ rs) ss = all-append c rs ss
 all-append c (stack t q d v ∷ rs) ss = all-append c rs ss
 all-append c (ram t a v zero ∷ rs) ss = all-append c rs ss
 all-append c (ram t a v (suc d) ∷ rs) ss = all-append (stored c a v) rs ss
@@ -34,6 +35,7 @@ module _ (lo hi : ℕ) (c k : Cells) (before : List Record) (h : (a : ℕ) → i
   new-since : (done : List Record) (r : Record) → newIn lo hi c (before ++ done) r ≡ newIn lo hi k done r
   unfolding newIn
   new-since done (other n s) = refl
+  new-since done (timed n t s) = refl
   new-since done (stack t q d v) = refl
   new-since done (ram t a v zero) = refl
   new-since done (ram t a v (suc d)) = go (inside lo hi a) refl
@@ -79,6 +81,7 @@ wrote-nothing c rs s h w n =
 pub wrote-one : (c : Cells) (r : Record) → Sorted c → Fine r → c .count + cellsIn 0 p c [] (r ∷ []) ≤ length (c .addresses) → Wrote c (r ∷ []) (wroteAll c (r ∷ []))
 unfolding hadOf wroteOf wroteAll newIn cellsIn
 wrote-one c (other k s) z f l = wrote-nothing c (other k s ∷ []) z (λ a x. refl) (λ a x. refl) refl
+wrote-one c (timed k t s) z f l = wrote-nothing c (timed k t s ∷ []) z (λ a x. refl) (λ a x. refl) refl
 wrote-one c (stack t q d v) z f l = wrote-nothing c (stack t q d v ∷ []) z (λ a x. refl) (λ a x. refl) refl
 wrote-one c (ram t a v zero) z f l = wrote-nothing c (ram t a v 0 ∷ []) z (λ a x. refl) (λ a x. refl) refl
 wrote-one c (ram t a v (suc d)) z (of-ram h _ _) l =

@@ -6,7 +6,7 @@ use lib.ListN.{length}
 use Rattle.machine.specs.Words.{p}
 use Rattle.machine.specs.Ram.{Cells}
 use Rattle.machine.specs.Records.{Record}
-use Rattle.replay_scan.specs.Walk.{Walk}
+use Rattle.replay_scan.specs.Walk.{Log, Walk}
 use Rattle.replay_scan.specs.Scan.{Fines}
 use Rattle.replay.specs.LastWrite.{wroteAll}
 use Rattle.replay_table.specs.Merge.{Sorted, lacked, Merged}
@@ -23,17 +23,17 @@ pub record Brings (c t d : Cells) : Type 0 where
   pub merged : Merged c t d
 
 -- the records up to `to`, and room for the cells that they take
-pub record Fitting (log : List ℕ) (to : ℕ) (c : Cells) : Type 0 where
+pub record Fitting (log : Log) (to : ℕ) (c : Cells) : Type 0 where
   pub records : List Record
   pub walk : Walk log 0 to records
-  pub ends : to ≤ length log
+  pub ends : to ≤ length (log .bytes)
   pub fine : Fines records
   pub sorted : Sorted c
   pub room : c .count + cellsIn 0 p c [] records ≤ length (c .addresses)
 
-pub record Written (log : List ℕ) (to : ℕ) (c d : Cells) : Type 0 where
+pub record Written (log : Log) (to : ℕ) (c d : Cells) : Type 0 where
   pub is : (rs : List Record) → Walk log 0 to rs → d ≡ wroteAll c rs
 
 -- in so many groups; `half` is half of the table's room
-pub record Few (log : List ℕ) (to half groups : ℕ) : Type 0 where
+pub record Few (log : Log) (to half groups : ℕ) : Type 0 where
   pub few : (rs : List Record) → Walk log 0 to rs → groups * half ≤ distinctIn 0 p rs + half

@@ -7,7 +7,7 @@ ghost use Rattle.machine.specs.Words.{p};
 ghost use Rattle.machine.specs.Ram.{cells as cellsOf};
 ghost use Rattle.machine.specs.Records.{lengthOf};
 ghost use Rattle.replay_scan.specs.RecordView.{recordAt};
-ghost use Rattle.replay_scan.specs.Walk.{Walked};
+ghost use Rattle.replay_scan.specs.Walk.{Walked, logOf};
 ghost use Rattle.replay_table.specs.Merge.{Sorted};
 ghost use Rattle.replay_table.specs.Group.{inside};
 ghost use Rattle.replay_table.specs.Table.{Paired};
@@ -65,6 +65,7 @@ fn within(lo: u64, hi: u64, a: u64) -> bool
 // The record of a kind at a place. Reads are looked at where `checking` says so.
 fn turn(
     log: &[u8],
+    revision: u64,
     at: usize,
     kind: u64,
     lo: u64,
@@ -80,9 +81,9 @@ fn turn(
     lvals: &mut [u64],
     m: usize,
 ) -> Touch
-    requires { ⌜ (at + lengthOf kind + 2 ≤ length (now log)) × Sorted (cellsOf count (now addresses) (now values)) × Paired (cellsOf n (now keys) (now vals)) (cellsOf m (now lkeys) (now lvals)) × (m < length (now lkeys)) ⌝ }
+    requires { ⌜ (at + lengthOf revision kind + 2 ≤ length (now log)) × Sorted (cellsOf count (now addresses) (now values)) × Paired (cellsOf n (now keys) (now vals)) (cellsOf m (now lkeys) (now lvals)) × (m < length (now lkeys)) ⌝ }
     ensures { λ r. ⌜ Touches checking lo hi (cellsOf count (now (addresses .entry)) (now (values .entry))) (cellsOf n (now (keys .entry)) (now (vals .entry))) (cellsOf m (now (lkeys .entry)) (now (lvals .entry)))
-        (recordAt (now (log .entry)) at kind) (r .wrong) (cellsOf n (now (keys .entry)) (now (vals .exit))) (cellsOf (r .m) (now (lkeys .exit)) (now (lvals .exit))) ⌝ }
+        (recordAt (logOf revision (now (log .entry))) at kind) (r .wrong) (cellsOf n (now (keys .entry)) (now (vals .exit))) (cellsOf (r .m) (now (lkeys .exit)) (now (lvals .exit))) ⌝ }
 {
     let still = Touch { wrong: false, m: m };
     if kind != 5 {
@@ -122,6 +123,7 @@ fn turn(
 // The records before the place `to`, for a group from lo on.
 fn pass_log(
     log: &[u8],
+    revision: u64,
     to: usize,
     lo: u64,
     checking: bool,
@@ -133,21 +135,22 @@ fn pass_log(
     lkeys: &mut [u64],
     lvals: &mut [u64],
 ) -> Pass
-    requires { ⌜ Walked (now log) to × (lo < p) × Sorted (cellsOf count (now addresses) (now values)) × Lent (now keys) (now vals) (now lkeys) (now lvals) ⌝ }
-    ensures { λ r. ⌜ Gathers (now (log .entry)) to checking lo (r .hi) (cellsOf count (now (addresses .entry)) (now (values .entry))) (r .end) (cellsOf (r .n) (now (keys .exit)) (now (vals .exit))) (cellsOf (r .m) (now (lkeys .exit)) (now (lvals .exit))) ⌝ }
+    requires { ⌜ Walked (logOf revision (now log)) to × (lo < p) × Sorted (cellsOf count (now addresses) (now values)) × Lent (now keys) (now vals) (now lkeys) (now lvals) ⌝ }
+    ensures { λ r. ⌜ Gathers (logOf revision (now (log .entry))) to checking lo (r .hi) (cellsOf count (now (addresses .entry)) (now (values .entry))) (r .end) (cellsOf (r .n) (now (keys .exit)) (now (vals .exit))) (cellsOf (r .m) (now (lkeys .exit)) (now (lvals .exit))) ⌝ }
 {
     let mut hi = P;
     let mut n = 0;
     let mut m = 0;
     let mut at = 0;
     while at < to {
-        let h = head_at(log, at);
+        let h = head_at(log, revision, at);
         let next = at + h.size + 2;
         let r = make_room(keys, vals, n, lkeys, lvals, m, hi);
         hi = r.hi;
         n = r.n;
         let t = turn(
             log,
+            revision,
             at,
             h.kind,
             lo,
@@ -185,6 +188,7 @@ fn pass_log(
 // The same, with the late cells merged into the table.
 pub fn group_from(
     log: &[u8],
+    revision: u64,
     to: usize,
     lo: u64,
     checking: bool,
@@ -196,11 +200,12 @@ pub fn group_from(
     lkeys: &mut [u64],
     lvals: &mut [u64],
 ) -> Group
-    requires { ⌜ Walked (now log) to × (lo < p) × Sorted (cellsOf count (now addresses) (now values)) × Lent (now keys) (now vals) (now lkeys) (now lvals) ⌝ }
-    ensures { λ r. ⌜ Gathers (now (log .entry)) to checking lo (r .hi) (cellsOf count (now (addresses .entry)) (now (values .entry))) (r .end) (cellsOf (r .n) (now (keys .exit)) (now (vals .exit))) (cellsOf 0 (now (lkeys .exit)) (now (lvals .exit))) ⌝ }
+    requires { ⌜ Walked (logOf revision (now log)) to × (lo < p) × Sorted (cellsOf count (now addresses) (now values)) × Lent (now keys) (now vals) (now lkeys) (now lvals) ⌝ }
+    ensures { λ r. ⌜ Gathers (logOf revision (now (log .entry))) to checking lo (r .hi) (cellsOf count (now (addresses .entry)) (now (values .entry))) (r .end) (cellsOf (r .n) (now (keys .exit)) (now (vals .exit))) (cellsOf 0 (now (lkeys .exit)) (now (lvals .exit))) ⌝ }
 {
     let r = pass_log(
         log,
+        revision,
         to,
         lo,
         checking,
@@ -223,6 +228,7 @@ pub fn group_from(
 // All addresses, group by group. A wrong read ends what the later groups pass over.
 pub fn sweep_all(
     log: &[u8],
+    revision: u64,
     to: usize,
     addresses: &[u64],
     values: &[u64],
@@ -232,8 +238,8 @@ pub fn sweep_all(
     lkeys: &mut [u64],
     lvals: &mut [u64],
 ) -> Sweep
-    requires { ⌜ Walked (now log) to × Sorted (cellsOf count (now addresses) (now values)) × Lent (now keys) (now vals) (now lkeys) (now lvals) ⌝ }
-    ensures { λ r. ⌜ Sweeps (now (log .entry)) to (cellsOf count (now (addresses .entry)) (now (values .entry))) (now (keys .exit)) (now (vals .exit)) (now (lkeys .exit)) (now (lvals .exit)) r ⌝ }
+    requires { ⌜ Walked (logOf revision (now log)) to × Sorted (cellsOf count (now addresses) (now values)) × Lent (now keys) (now vals) (now lkeys) (now lvals) ⌝ }
+    ensures { λ r. ⌜ Sweeps (logOf revision (now (log .entry))) to (cellsOf count (now (addresses .entry)) (now (values .entry))) (now (keys .exit)) (now (vals .exit)) (now (lkeys .exit)) (now (lvals .exit)) r ⌝ }
 {
     let mut end = to;
     let mut cells = 0;
@@ -243,6 +249,7 @@ pub fn sweep_all(
     while lo < P {
         let g = group_from(
             log,
+            revision,
             end,
             lo,
             true,

@@ -2,6 +2,7 @@
 ghost use Prim.Native.Nat.{_/_};
 ghost use lib.ListN.{length};
 ghost use Rattle.machine.specs.Ram.{cells as cellsOf};
+ghost use Rattle.replay_scan.specs.Walk.{logOf};
 ghost use Rattle.replay_group.specs.GroupView.{Lent};
 ghost use Rattle.replay_group.specs.WriteView.{Fits, Brings, Fitting, Written, Few};
 ghost use Rattle.replay_group.specs.Decided.{Left};
@@ -36,6 +37,7 @@ fn bring(
 // The records before `to`, group by group.
 fn write_groups(
     log: &[u8],
+    revision: u64,
     to: usize,
     addresses: &mut [u64],
     values: &mut [u64],
@@ -45,8 +47,8 @@ fn write_groups(
     lkeys: &mut [u64],
     lvals: &mut [u64],
 ) -> Wrote
-    requires { ⌜ Fitting (now log) to (cellsOf count (now addresses) (now values)) × Lent (now keys) (now vals) (now lkeys) (now lvals) ⌝ }
-    ensures { λ r. ⌜ Written (now (log .entry)) to (cellsOf count (now (addresses .entry)) (now (values .entry))) (cellsOf (r .cells) (now (addresses .exit)) (now (values .exit))) × Few (now (log .entry)) to (length (now (keys .entry)) / 2) (r .groups) ⌝ }
+    requires { ⌜ Fitting (logOf revision (now log)) to (cellsOf count (now addresses) (now values)) × Lent (now keys) (now vals) (now lkeys) (now lvals) ⌝ }
+    ensures { λ r. ⌜ Written (logOf revision (now (log .entry))) to (cellsOf count (now (addresses .entry)) (now (values .entry))) (cellsOf (r .cells) (now (addresses .exit)) (now (values .exit))) × Few (logOf revision (now (log .entry))) to (length (now (keys .entry)) / 2) (r .groups) ⌝ }
 {
     let mut used = count;
     let mut groups = 0;
@@ -55,6 +57,7 @@ fn write_groups(
         groups += 1;
         let g = group_from(
             log,
+            revision,
             to,
             lo,
             false,
@@ -78,6 +81,7 @@ fn write_groups(
 // The same. Where one table of n cells had room for all, it is there already.
 pub fn write_back(
     log: &[u8],
+    revision: u64,
     to: usize,
     addresses: &mut [u64],
     values: &mut [u64],
@@ -89,12 +93,23 @@ pub fn write_back(
     whole: bool,
     n: usize,
 ) -> usize
-    requires { ⌜ Fitting (now log) to (cellsOf count (now addresses) (now values)) × Lent (now keys) (now vals) (now lkeys) (now lvals) × Left (now log) to whole (cellsOf n (now keys) (now vals)) (now lkeys) (now lvals) ⌝ }
-    ensures { λ r. ⌜ Written (now (log .entry)) to (cellsOf count (now (addresses .entry)) (now (values .entry))) (cellsOf r (now (addresses .exit)) (now (values .exit))) ⌝ }
+    requires { ⌜ Fitting (logOf revision (now log)) to (cellsOf count (now addresses) (now values)) × Lent (now keys) (now vals) (now lkeys) (now lvals) × Left (logOf revision (now log)) to whole (cellsOf n (now keys) (now vals)) (now lkeys) (now lvals) ⌝ }
+    ensures { λ r. ⌜ Written (logOf revision (now (log .entry))) to (cellsOf count (now (addresses .entry)) (now (values .entry))) (cellsOf r (now (addresses .exit)) (now (values .exit))) ⌝ }
 {
     if whole {
         return bring(addresses, values, count, keys, vals, n);
     }
-    let w = write_groups(log, to, addresses, values, count, keys, vals, lkeys, lvals);
+    let w = write_groups(
+        log,
+        revision,
+        to,
+        addresses,
+        values,
+        count,
+        keys,
+        vals,
+        lkeys,
+        lvals,
+    );
     w.cells
 }

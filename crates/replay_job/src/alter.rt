@@ -89,7 +89,7 @@ fn alter_record(log: &mut [u8], at: usize, kind: u64, size: usize)
 pub fn alter_reads(log: &mut [u8]) {
     let mut at = 0;
     while at < log.len() {
-        let h = head_at(log, at);
+        let h = head_at(log, 1, at);
         if h.state != 2 {
             return;
         }

@@ -38,6 +38,7 @@ fn main() {
     let mut output = [0u64; 8];
     let mut log = [0u8; 4096];
     let opened = open(
+        1,
         memory_job::DIGEST,
         memory_job::CELLS,
         &opcodes,

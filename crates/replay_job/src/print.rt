@@ -29,6 +29,7 @@ pub fn replay_to(log: &[u8], clock: u64) {
     let mut stack = [0u64; 8];
     let r = replay(
         log,
+        1,
         &mut addresses,
         &mut values,
         memory_job::CELLS,

@@ -4,7 +4,7 @@ use mathlib.Core.Bool.{Bool, true, false}
 use mathlib.Core.List.{List, []}
 use Prim.Native.Nat.{ℕ, zero, suc, _+_, _-_, _≤_, _<_}
 use native.Mathlib.Omega.{arith}
-use borrow.Author.Tests.{eq-eqb, ne-eqb, ltb-true, ltb-false, eqb-true, eqb-false}
+use borrow.Author.Tests.{eq-eqb, ne-eqb, le-ltb, ltb-true, ltb-false, eqb-true, eqb-false}
 use lib.ListN.{length, drop, getD, set, length-set}
 use lib.Dec.{eqb, ltb}
 use Rattle.choices.specs.Choice.{cond, firstOf, aboveOf, differOf}
@@ -17,10 +17,11 @@ use Rattle.machine.proofs.Bytes.{is-word-of}
 use Rattle.replay_scan.specs.declared.record.Fields.{Fields}
 use Rattle.replay_scan.specs.declared.scan.Counts.{Counts}
 use Rattle.replay_scan.specs.declared.scan.Turn.{Turn}
-use Rattle.replay.specs.Replay.{Tally, tally, tallyAt, withStack, withRam, Built, built, word40, fields40, clock41, mostRecords, stack45, ram45, stackFault, stackTurn, judged}
-use Rattle.replay_scan.specs.RecordView.{recordAt, OfStack, OfRam}
-use Rattle.replay_scan.specs.Scan.{write45, restOf, over45, Fine, of-other, of-stack, of-ram, ramIn}
-use Rattle.replay_scan.specs.ScanView.{Places, tallyOf, Few, StackFault, Movable, Moved, verdictOf, Off, Turns, Stays}
+use Rattle.replay.specs.Replay.{Tally, tally, tallyAt, withStack, withRam, withTimed, Built, built, word40, fields40, clock41, mostRecords, stack45, ram45, stackFault, stackTurn, judged}
+use Rattle.replay_scan.specs.RecordView.{recordAt, OfStack, OfRam, OfTimed}
+use Rattle.replay_scan.specs.Walk.{Log}
+use Rattle.replay_scan.specs.Scan.{write45, restOf, over45, Fine, of-other, of-timed, of-stack, of-ram, ramIn}
+use Rattle.replay_scan.specs.ScanView.{Places, tallyOf, Few, StackFault, Movable, Moved, verdictOf, Off, Turns, Stays, Times}
 use Rattle.replay.proofs.Verdicts.{judged-stops, judged-goes, judged-wrong, word-nil}
 
 -- ---- faults
@@ -196,11 +197,11 @@ module _ (j : ℕ) (n : Counts) (depth : ℕ) (s : List ℕ) (f : Fields) (h : P
 
     -- one stack record more
     abbrev behind : Counts
-    behind = record { last = f .clock; way = f .dir; stacks = m .stacks + 1; rams = m .rams }
+    behind = record { last = f .clock; clock = f .clock; way = f .dir; stacks = m .stacks + 1; rams = m .rams }
 
     behind-is : withStack (tallyOf n) (f .clock) (f .dir) ≡ tallyOf behind
     unfolding withStack
-    behind-is = ap (λ (z : Tally). tally (f .clock) (f .dir) (z .stacks + 1) (z .rams)) (sym (m-is .0))
+    behind-is = ap (λ (z : Tally). tally (f .clock) (f .clock) (f .dir) (z .stacks + 1) (z .rams)) (sym (m-is .0))
 
     behind-few : k ≡ 0 → Few behind
     behind-few e =
@@ -285,11 +286,11 @@ module _ (j : ℕ) (n : Counts) (depth : ℕ) (f : Fields) where
 
     -- one RAM record more
     abbrev ram-behind : Counts
-    ram-behind = record { last = f .clock; way = m .way; stacks = m .stacks; rams = m .rams + 1 }
+    ram-behind = record { last = f .clock; clock = f .clock; way = m .way; stacks = m .stacks; rams = m .rams + 1 }
 
     ram-behind-is : withRam (tallyOf n) (f .clock) ≡ tallyOf ram-behind
     unfolding withRam
-    ram-behind-is = ap (λ (z : Tally). tally (f .clock) (z .way) (z .stacks) (z .rams + 1)) (sym (m-is .0))
+    ram-behind-is = ap (λ (z : Tally). tally (f .clock) (f .clock) (z .way) (z .stacks) (z .rams + 1)) (sym (m-is .0))
 
     pub ram-goes : k ≡ 0 → f .place < 18446744073709551616 → f .value < 18446744073709551616 →
         Stays j n depth of-ram-f (record { going = true; number = over; counts = ram-behind; depth = depth; ram = 1 })
@@ -305,42 +306,101 @@ module _ (j : ℕ) (n : Counts) (depth : ℕ) (f : Fields) where
           same = refl;
         }
 
+-- ---- a record of kind 6 or 7
+
+module _ (j : ℕ) (n : Counts) (depth t : ℕ) where
+  pub timed-late : {r : Turn} → j ≤ t → Off 0 depth r → Times j n depth t r
+  unfolding restOf
+  timed-late l o =
+      record {
+        stays =
+            λ k fields.
+            record {
+              is = λ s c. late-is j _ _ _ s c _ l (o .going) (o .number);
+              over = λ e. absurd (let z : _≡_ {A = ℕ} 0 1 = cc (o .going) in omega arith);
+              few = λ e. absurd (let z : _≡_ {A = ℕ} 0 1 = cc (o .going) in omega arith);
+              fine = λ e. of-timed;
+              quiet = λ e. absurd (let z : _≡_ {A = ℕ} 0 1 = cc (o .going) in omega arith);
+              same = o .depth;
+            };
+      }
+
+  module _ (fault : ℕ) (early : t < j) (is-41 : fault ≡ aboveOf (n .last) t 41) where
+    pub timed-wrong : {r : Turn} → (fault ≡ 0 → ⊥) → Off fault depth r → Times j n depth t r
+    unfolding restOf clock41
+    timed-wrong k o =
+        record {
+          stays =
+              λ _ fields.
+              record {
+                is = λ s c. wrong-is j _ _ _ s c _ early (λ e. k (is-41 ∙ e)) (o .going) (o .number ∙ is-41);
+                over = λ e. absurd (let z : _≡_ {A = ℕ} 0 1 = cc (o .going) in omega arith);
+                few = λ e. absurd (let z : _≡_ {A = ℕ} 0 1 = cc (o .going) in omega arith);
+                fine = λ e. of-timed;
+                quiet = λ e. absurd (let z : _≡_ {A = ℕ} 0 1 = cc (o .going) in omega arith);
+                same = o .depth;
+              };
+        }
+
+    pub timed-goes : Few n → fault ≡ 0 →
+        Times j n depth t (record { going = true; number = 0; counts = record { last = t; clock = n .clock; way = n .way; stacks = n .stacks; rams = n .rams }; depth = depth; ram = 0 })
+    unfolding restOf clock41 withTimed over45 ramIn
+    timed-goes few e =
+        record {
+          stays =
+              λ _ fields.
+              record {
+                is = λ s c. goes-is j _ _ _ s c _ early (sym is-41 ∙ e) refl refl;
+                over = λ _. refl;
+                few = λ _ _. record { stacks = few .stacks; rams = few .rams };
+                fine = λ _. of-timed;
+                quiet = λ _ _. refl;
+                same = refl;
+              };
+        }
+
 -- ---- a record by its kind
 
-pub stack-size : (kind : ℕ) → kind ≡ 4 → lengthOf kind ≡ 23
+pub stack-size : (v kind : ℕ) → kind ≡ 4 → lengthOf v kind ≡ 23
 unfolding lengthOf
-stack-size kind e = rw e
+stack-size v kind e = rw e
 
-pub ram-size : (kind : ℕ) → kind ≡ 5 → lengthOf kind ≡ 23
+pub ram-size : (v kind : ℕ) → kind ≡ 5 → lengthOf v kind ≡ 23
 unfolding lengthOf
-ram-size kind e = rw e
+ram-size v kind e = rw e
 
-module _ (log : List ℕ) (at kind j : ℕ) (n : Counts) (depth : ℕ) (s : List ℕ) (h : Places s depth) where
-  pub turn-stack : {after : List ℕ} {r : Turn} (f : Fields) → kind ≡ 4 → OfStack log at f →
+module _ (log : Log) (at kind j : ℕ) (n : Counts) (depth : ℕ) (s : List ℕ) (h : Places s depth) where
+  pub turn-stack : {after : List ℕ} {r : Turn} (f : Fields) → kind ≡ 4 → OfStack (log .bytes) at f →
       Turns j n depth s (stack (f .clock) (f .place) (f .dir) (f .value)) after r → Turns j n depth s (recordAt log at kind) after r
-  turn-stack f e o t = rw (stack-size kind e, e, o .is) t
+  turn-stack f e o t = rw (stack-size (log .revision) kind e, e, o .is) t
 
-  pub turn-ram : {r : Turn} (f : Fields) → kind ≡ 5 → OfRam log at f → Stays j n depth (ram (f .clock) (f .place) (f .value) (f .dir)) r → Turns j n depth s (recordAt log at kind) s r
+  pub turn-ram : {r : Turn} (f : Fields) → kind ≡ 5 → OfRam (log .bytes) at f → Stays j n depth (ram (f .clock) (f .place) (f .value) (f .dir)) r → Turns j n depth s (recordAt log at kind) s r
   turn-ram f e o t =
-      rw (ram-size kind e, e, o .is)
+      rw (ram-size (log .revision) kind e, e, o .is)
       (record { is = λ c. t .is s c; over = t .over; few = t .few; fine = t .fine; quiet = t .quiet; kept = λ e. refl; places = rw (t .same) h; room = refl })
 
-  other-is : (b : List ℕ) → (kind ≡ 4 → ⊥) → (kind ≡ 5 → ⊥) → recordOf kind b ≡ other kind (drop 4 b)
-  unfolding recordOf
-  other-is b k l = rw (ne-eqb kind 4 k, ne-eqb kind 5 l)
+  pub turn-timed : {r : Turn} (t : ℕ) → OfTimed log at kind t → Times j n depth t r → Turns j n depth s (recordAt log at kind) s r
+  turn-timed t o k =
+      let z = k .stays kind (o .fields) in
+      rw (o .is)
+      (record { is = λ c. z .is s c; over = z .over; few = z .few; fine = z .fine; quiet = z .quiet; kept = λ e. refl; places = rw (z .same) h; room = refl })
 
-  pub turn-other : Few n → (kind ≡ 4 → ⊥) → (kind ≡ 5 → ⊥) → Turns j n depth s (recordAt log at kind) s (record { going = true; number = 0; counts = n; depth = depth; ram = 0 })
+  other-is : (b : List ℕ) → (kind ≡ 4 → ⊥) → (kind ≡ 5 → ⊥) → kind ≤ 5 → recordOf kind b ≡ other kind (drop 4 b)
+  unfolding recordOf
+  other-is b k l m = rw (ne-eqb kind 4 k, ne-eqb kind 5 l, le-ltb 5 kind m)
+
+  pub turn-other : Few n → (kind ≡ 4 → ⊥) → (kind ≡ 5 → ⊥) → kind ≤ 5 → Turns j n depth s (recordAt log at kind) s (record { going = true; number = 0; counts = n; depth = depth; ram = 0 })
   unfolding restOf verdictOf ramIn over45
-  turn-other few k l =
-      rw (other-is _ k l)
+  turn-other few k l m =
+      rw (other-is _ k l m)
       (record { is = λ c. refl; over = λ e. refl; few = λ _ _. few; fine = λ e. of-other; quiet = λ e q. refl; kept = λ e. refl; places = h; room = refl })
 
 -- ---- what is counted
 
-pub counts-same : (n : Counts) (t : ℕ) → Few n → n .last ≡ t → (tallyOf n ≡ tallyAt (tallyOf n) t) × Few n
+pub counts-same : (n : Counts) (t : ℕ) → Few n → n .clock ≡ t → (tallyOf n ≡ tallyAt (tallyOf n) t) × Few n
 unfolding tallyAt
-counts-same n t f e = (rw (eq-eqb (n .last) t e), f)
+counts-same n t f e = (rw (eq-eqb (n .clock) t e), f)
 
-pub counts-anew : (n : Counts) (t : ℕ) → (n .last ≡ t → ⊥) → (tally t 0 0 0 ≡ tallyAt (tallyOf n) t) × Few (record { last = t; way = 0; stacks = 0; rams = 0 })
+pub counts-anew : (n : Counts) (t : ℕ) → (n .clock ≡ t → ⊥) → (tally (n .last) t 0 0 0 ≡ tallyAt (tallyOf n) t) × Few (record { last = n .last; clock = t; way = 0; stacks = 0; rams = 0 })
 unfolding tallyAt
-counts-anew n t e = (rw (ne-eqb (n .last) t e), record { stacks = omega arith; rams = omega arith })
+counts-anew n t e = (rw (ne-eqb (n .clock) t e), record { stacks = omega arith; rams = omega arith })

@@ -5,10 +5,10 @@ use mathlib.Core.List.{List, [], _∷_, _++_}
 use Prim.Native.Nat.{ℕ, zero, suc, _+_, _*_, _≤_, _<_}
 use native.Mathlib.Omega.{arith}
 use borrow.Author.Tests.{eqb-true}
-use lib.ListN.{length, drop}
+use lib.ListN.{length}
 use lib.Dec.{eqb}
 use Rattle.machine.specs.Ram.{Cells}
-use Rattle.machine.specs.Records.{Record, other, stack, ram}
+use Rattle.machine.specs.Records.{Record, other, timed, stack, ram}
 use Rattle.choices.specs.Choice.{firstOf}
 use Rattle.choices.proofs.Choice.{first-nil}
 use Rattle.replay_scan.specs.declared.record.Head.{Head}
@@ -16,7 +16,7 @@ use Rattle.replay_scan.specs.declared.scan.Counts.{Counts}
 use Rattle.replay_scan.specs.declared.scan.Turn.{Turn}
 use Rattle.replay.specs.Replay.{Built, built, started, goes}
 use Rattle.replay_scan.specs.RecordView.{recordAt, headed, Headed}
-use Rattle.replay_scan.specs.Walk.{Walk}
+use Rattle.replay_scan.specs.Walk.{Log, parseAt, Walk}
 use Rattle.replay_scan.specs.Scan.{restOf, over45, Rests, Fine, Fines, ramIn, Ends, at-end, at-break, at-stop, at-fault, at-over, Scanned}
 use Rattle.replay_scan.specs.ScanView.{tallyOf, verdictOf, Turns}
 use Rattle.replay.proofs.Verdicts.{All}
@@ -46,22 +46,23 @@ ram-append : (rs : List Record) (r : Record) → ramIn (rs ++ (r ∷ [])) ≡ ra
 unfolding ramIn
 ram-append [] r = omega arith
 ram-append (other k s ∷ rs) r = ram-append rs r
+ram-append (timed k t s ∷ rs) r = ram-append rs r
 ram-append (stack t q d v ∷ rs) r = ram-append rs r
 ram-append (ram t a v d ∷ rs) r = omega (arith, ram-append rs r)
 
 -- a scan of the log up to a place, with the stack slice s before and `words` now; no record of RAM so far where `some` is 0
-pub record Going (log s : List ℕ) (j at : ℕ) (n : Counts) (depth some : ℕ) (words : List ℕ) : Type 0 where
+pub record Going (log : Log) (s : List ℕ) (j at : ℕ) (n : Counts) (depth some : ℕ) (words : List ℕ) : Type 0 where
   pub records : List Record
   pub walk : Walk log 0 at records
   pub fine : Fines records
   pub quiet : some ≡ 0 → ramIn records ≡ 0
   pub rests : (c : Cells) → Rests j (started s c) records (built (tallyOf n) depth words c) 0
 
-pub going-start : (log s : List ℕ) (j : ℕ) → Going log s j 0 (record { last = 0; way = 0; stacks = 0; rams = 0 }) 16 0 s
+pub going-start : (log : Log) (s : List ℕ) (j : ℕ) → Going log s j 0 (record { last = 0; clock = 0; way = 0; stacks = 0; rams = 0 }) 16 0 s
 unfolding ramIn
 going-start log s j = record { records = []; walk = Walk.none; fine = Fines.none; quiet = λ e. refl; rests = λ c. Rests.none }
 
-module _ {log s words : List ℕ} {j at : ℕ} {n : Counts} {depth some : ℕ} (h : Head) (go : Going log s j at n depth some words) (head : Headed log at h) (inside : at ≤ length log) where
+module _ {log : Log} {s words : List ℕ} {j at : ℕ} {n : Counts} {depth some : ℕ} (h : Head) (go : Going log s j at n depth some words) (head : Headed log at h) (inside : at ≤ length (log .bytes)) where
   pub scan-ends : h .state < 2 → Scanned log s j words (record { number = 40 * h .state; end = at; depth = depth; ram = some })
   unfolding headed
   scan-ends l =
@@ -77,7 +78,7 @@ module _ {log s words : List ℕ} {j at : ℕ} {n : Counts} {depth some : ℕ} (
         ends = λ c. why c (h .state) refl;
       }
     where
-      why : (c : Cells) (z : ℕ) → h .state ≡ z → Ends j (built (tallyOf n) depth words c) (drop at log) 0 (40 * z)
+      why : (c : Cells) (z : ℕ) → h .state ≡ z → Ends j (built (tallyOf n) depth words c) (parseAt log at) 0 (40 * z)
       why c zero e = at-end (sym (rw e at (head .is)))
       why c (suc zero) e = at-break (sym (rw e at (head .is)))
       why c (suc (suc z)) e = absurd (omega arith)
@@ -99,7 +100,7 @@ module _ {log s words : List ℕ} {j at : ℕ} {n : Counts} {depth some : ℕ} (
           ends = λ c. why c (eqb (r .number) 0) refl;
         })
       where
-        why : (c : Cells) (t : Bool) → eqb (r .number) 0 ≡ t → Ends j (built (tallyOf n) depth words c) (drop at log) 0 (r .number)
+        why : (c : Cells) (t : Bool) → eqb (r .number) 0 ≡ t → Ends j (built (tallyOf n) depth words c) (parseAt log at) 0 (r .number)
         why c true q = rw (eqb-true (r .number) 0 q) (at-stop (head-record log at h head two) (turns .is c ∙ rw (e, q)))
         why c false q = at-fault {n = r .number} (head-record log at h head two) (turns .is c ∙ rw (e, q))
 
@@ -124,7 +125,7 @@ module _ {log s words : List ℕ} {j at : ℕ} {n : Counts} {depth some : ℕ} (
             rests = λ c. rests-append _ (go .rests c) (goes-here c) (turns .over e ∙ z);
           }
 
-      pub scan-over : (r .number ≡ 0 → ⊥) → at + h .size + 2 ≤ length log → Scanned log s j after (record { number = r .number; end = at + h .size + 2; depth = r .depth; ram = next })
+      pub scan-over : (r .number ≡ 0 → ⊥) → at + h .size + 2 ≤ length (log .bytes) → Scanned log s j after (record { number = r .number; end = at + h .size + 2; depth = r .depth; ram = next })
       scan-over z l =
           record {
             records = go .records ++ (recordAt log at (h .kind) ∷ []);

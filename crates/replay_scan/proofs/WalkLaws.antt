@@ -4,18 +4,18 @@ use mathlib.Core.List.{List, [], _∷_}
 use Prim.Native.Nat.{ℕ, zero, suc, _+_, _-_, _≤_, _<_}
 use native.Mathlib.Omega.{arith}
 use lib.ListN.{length, drop, length-drop}
-use Rattle.machine.specs.Records.{Record, lengthOf, ended, broken, found, parse}
+use Rattle.machine.specs.Records.{Record, lengthOf, ended, broken, found}
 use Rattle.replay_scan.specs.RecordView.{recordAt, headed, Headed}
 use Rattle.replay_scan.specs.declared.record.Head.{Head}
-use Rattle.replay_scan.specs.Walk.{Walk, none, more}
+use Rattle.replay_scan.specs.Walk.{Log, parseAt, Walk, none, more}
 use Rattle.replay_scan.proofs.Heads.{head-record}
 
-pub walk-end : {s : List ℕ} {i to : ℕ} {rs : List Record} → Walk s i to rs → to ≤ i → rs ≡ []
+pub walk-end : {s : Log} {i to : ℕ} {rs : List Record} → Walk s i to rs → to ≤ i → rs ≡ []
 walk-end none h = refl
 walk-end (more n e p l w) h = absurd (omega arith)
 
 -- a record has a byte at least
-pub walk-count : {s : List ℕ} {i to : ℕ} {rs : List Record} → Walk s i to rs → i + length rs ≤ to
+pub walk-count : {s : Log} {i to : ℕ} {rs : List Record} → Walk s i to rs → i + length rs ≤ to
 walk-count none = omega arith
 walk-count (more n e p l w) = let k = walk-count w in omega arith
 
@@ -40,30 +40,30 @@ same-place s a b h k e =
     omega arith
 
 -- records end at one place only
-pub walk-place : {s : List ℕ} {i a b : ℕ} {rs : List Record} → a ≤ length s → b ≤ length s → Walk s i a rs → Walk s i b rs → a ≡ b
+pub walk-place : {s : Log} {i a b : ℕ} {rs : List Record} → a ≤ length (s .bytes) → b ≤ length (s .bytes) → Walk s i a rs → Walk s i b rs → a ≡ b
 walk-place h k none none = refl
 walk-place {s} {i} {b = b} h k (more n {r = r} {rs = rs} e p l w) (more m f o t x) =
-    let q : found r (drop (i + n) s) ≡ found r (drop (i + m) s) = sym e ∙ f in
-    let j : i + n ≡ i + m = same-place s (i + n) (i + m) (omega arith) (omega arith) (found-rest _ _ _ _ q) in
+    let q : found r (drop (i + n) (s .bytes)) ≡ found r (drop (i + m) (s .bytes)) = sym e ∙ f in
+    let j : i + n ≡ i + m = same-place (s .bytes) (i + n) (i + m) (omega arith) (omega arith) (found-rest _ _ _ _ q) in
     let y : Walk s (i + n) b rs = rw j x in
     walk-place h k w y
 
 -- the record that a head tells of, where a walk has yet to pass it
-pub record Next (s : List ℕ) (i to : ℕ) (rs : List Record) (h : Head) : Type 0 where
-  pub sized : h .size ≡ lengthOf (h .kind)
+pub record Next (s : Log) (i to : ℕ) (rs : List Record) (h : Head) : Type 0 where
+  pub sized : h .size ≡ lengthOf (s .revision) (h .kind)
   pub fits : i + h .size + 2 ≤ to
-  pub parsed : parse (drop i s) ≡ found (recordAt s i (h .kind)) (drop (i + (h .size + 2)) s)
+  pub parsed : parseAt s i ≡ found (recordAt s i (h .kind)) (drop (i + (h .size + 2)) (s .bytes))
   pub rest : List Record
   pub is : rs ≡ recordAt s i (h .kind) ∷ rest
   pub walk : Walk s (i + h .size + 2) to rest
 
-pub walk-next : {s : List ℕ} {i to : ℕ} {rs : List Record} (h : Head) → Headed s i h → to ≤ length s → i < to → Walk s i to rs → Next s i to rs h
+pub walk-next : {s : Log} {i to : ℕ} {rs : List Record} (h : Head) → Headed s i h → to ≤ length (s .bytes) → i < to → Walk s i to rs → Next s i to rs h
 unfolding headed
 walk-next h g m l none = absurd (omega arith)
 walk-next {s} {i} {to} h g m l (more n {r = r} {rs = ts} e p k w) =
     let f = head-record s i h g (omega (arith, two)) in
     let q = sym f ∙ e in
-    let j : i + (h .size + 2) ≡ i + n = same-place s (i + (h .size + 2)) (i + n) (omega (arith, g .fits two)) (omega arith) (found-rest _ _ _ _ q) in
+    let j : i + (h .size + 2) ≡ i + n = same-place (s .bytes) (i + (h .size + 2)) (i + n) (omega (arith, g .fits two)) (omega arith) (found-rest _ _ _ _ q) in
     let z : i + h .size + 2 ≡ i + n = omega arith in
     record {
       sized = g .sized two;
@@ -75,8 +75,8 @@ walk-next {s} {i} {to} h g m l (more n {r = r} {rs = ts} e p k w) =
     }
   where
     state-is : (z : ℕ) → h .state ≡ z → h .state ≡ 2
-    state-is zero z = absurd (no-end r (drop (i + n) s) ((rw z at (g .is)) ∙ e))
-    state-is (suc zero) z = absurd (no-break r (drop (i + n) s) ((rw z at (g .is)) ∙ e))
+    state-is zero z = absurd (no-end r (drop (i + n) (s .bytes)) ((rw z at (g .is)) ∙ e))
+    state-is (suc zero) z = absurd (no-break r (drop (i + n) (s .bytes)) ((rw z at (g .is)) ∙ e))
     state-is (suc (suc y)) z = omega (arith, g .two)
 
     two : h .state ≡ 2

@@ -8,48 +8,48 @@ use borrow.Author.Tests.{ltb-true, ltb-false}
 use lib.ListN.{length, drop, length-drop, drop-of-length-le}
 use lib.Dec.{ltb}
 use Rattle.machine.specs.Records.{Record, found, parse}
-use Rattle.replay_scan.specs.Walk.{Walk}
+use Rattle.replay_scan.specs.Walk.{Log, parseAt, Walk}
 
-pub walk-within : {s : List ℕ} {i k : ℕ} {rs : List Record} → Walk s i k rs → i ≤ k
+pub walk-within : {s : Log} {i k : ℕ} {rs : List Record} → Walk s i k rs → i ≤ k
 walk-within Walk.none = omega arith
 walk-within (Walk.more n e p l w) = omega arith
 
-pub walk-append : {s : List ℕ} {i k : ℕ} {rs : List Record} (n : ℕ) {r : Record} → Walk s i k rs → parse (drop k s) ≡ found r (drop (k + n) s) → 0 < n → Walk s i (k + n) (rs ++ (r ∷ []))
+pub walk-append : {s : Log} {i k : ℕ} {rs : List Record} (n : ℕ) {r : Record} → Walk s i k rs → parseAt s k ≡ found r (drop (k + n) (s .bytes)) → 0 < n → Walk s i (k + n) (rs ++ (r ∷ []))
 walk-append {k = k} n Walk.none e h = let l : k + n ≤ k + n = omega arith in Walk.more n e h l Walk.none
 walk-append {i = i} {k = k} n (Walk.more m f p l w) e h = let x : i + m ≤ k + n = omega arith in Walk.more m f p x (walk-append n w e h)
 
 -- nothing stands past the end
-walk-past : {s : List ℕ} {i k : ℕ} {rs : List Record} → Walk s i k rs → length s ≤ i → rs ≡ []
+walk-past : {s : Log} {i k : ℕ} {rs : List Record} → Walk s i k rs → length (s .bytes) ≤ i → rs ≡ []
 unfolding parse
 walk-past Walk.none h = refl
 walk-past {s} (Walk.more n e p l w) h =
-    let y = rw (drop-of-length-le s h) at e in
+    let y = rw (drop-of-length-le (s .bytes) h) at e in
     let z : _≡_ {A = ℕ} 0 1 = cc y in absurd (omega arith)
 
 same-length : (s : List ℕ) (a b : ℕ) → drop a s ≡ drop b s → length s - a ≡ length s - b
 same-length s a b e = sym (length-drop a s) ∙ ap length e ∙ length-drop b s
 
 -- two walks that read the same bytes behind their first records have the same records behind them
-walk-rest : {s : List ℕ} {a b to : ℕ} {rs ss : List Record} → (Walk s a to ss → rs ≡ ss) → Walk s a to rs → Walk s b to ss → length s - a ≡ length s - b → rs ≡ ss
-walk-rest {s} {a} {b} {to} {rs} {ss} ih w v z = go (ltb a (length s)) refl
+walk-rest : {s : Log} {a b to : ℕ} {rs ss : List Record} → (Walk s a to ss → rs ≡ ss) → Walk s a to rs → Walk s b to ss → length (s .bytes) - a ≡ length (s .bytes) - b → rs ≡ ss
+walk-rest {s} {a} {b} {to} {rs} {ss} ih w v z = go (ltb a (length (s .bytes))) refl
   where
-    go : (t : Bool) → ltb a (length s) ≡ t → rs ≡ ss
+    go : (t : Bool) → ltb a (length (s .bytes)) ≡ t → rs ≡ ss
     go true e =
-        let l : a < length s = ltb-true a (length s) e in
+        let l : a < length (s .bytes) = ltb-true a (length (s .bytes)) e in
         let q : a ≡ b = omega arith in
         ih (rw q v)
     go false e =
-        let l : length s ≤ a = ltb-false a (length s) e in
-        let k : length s ≤ b = omega arith in
+        let l : length (s .bytes) ≤ a = ltb-false a (length (s .bytes)) e in
+        let k : length (s .bytes) ≤ b = omega arith in
         walk-past w l ∙ sym (walk-past v k)
 
 -- the records between two places are these and no others
-pub walk-same : {s : List ℕ} {i k : ℕ} {rs ss : List Record} → Walk s i k rs → Walk s i k ss → rs ≡ ss
+pub walk-same : {s : Log} {i k : ℕ} {rs ss : List Record} → Walk s i k rs → Walk s i k ss → rs ≡ ss
 walk-same Walk.none Walk.none = refl
 walk-same Walk.none (Walk.more n e p l w) = absurd (omega (arith, walk-within w))
 walk-same (Walk.more n e p l w) Walk.none = absurd (omega (arith, walk-within w))
 walk-same {s} {i} {k} (Walk.more n {r = r} {rs = rs} e p l w) (Walk.more m {r = q} {rs = ss} f o t v) =
     let x : r ≡ q = cc in
-    let y : drop (i + n) s ≡ drop (i + m) s = cc in
-    let z : rs ≡ ss = walk-rest (λ u. walk-same w u) w v (same-length s (i + n) (i + m) y) in
+    let y : drop (i + n) (s .bytes) ≡ drop (i + m) (s .bytes) = cc in
+    let z : rs ≡ ss = walk-rest (λ u. walk-same w u) w v (same-length (s .bytes) (i + n) (i + m) y) in
     λ a. x a ∷ z a

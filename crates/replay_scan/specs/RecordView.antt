@@ -6,7 +6,8 @@ use lib.ListN.{length, take, drop}
 use lib.Dec.{eqb, ltb}
 use Rattle.choices.specs.Choice.{cond}
 use Rattle.machine.specs.Bytes.{numberOf}
-use Rattle.machine.specs.Records.{Record, stack, ram, lengthOf, Parsed, ended, broken, found, recordOf, parse}
+use Rattle.machine.specs.Records.{Record, timed, stack, ram, lengthOf, Parsed, ended, broken, found, recordOf}
+use Rattle.replay_scan.specs.Walk.{Log, parseAt}
 use Rattle.replay_scan.specs.declared.record.Head.{Head}
 use Rattle.replay_scan.specs.declared.record.Fields.{Fields}
 
@@ -36,13 +37,14 @@ unfoldable pub headed : Head → List ℕ → Parsed
 headed h s = cond (eqb (h .state) 0) ended (cond (eqb (h .state) 1) broken (found (recordOf (h .kind) (take (h .size + 2) s)) (drop (h .size + 2) s)))
 
 -- the record of kind k at a place
-abbrev pub recordAt : List ℕ → ℕ → ℕ → Record
-recordAt s at k = recordOf k (take (lengthOf k + 2) (drop at s))
+abbrev pub recordAt : Log → ℕ → ℕ → Record
+recordAt s at k = recordOf k (take (lengthOf (s .revision) k + 2) (drop at (s .bytes)))
 
-pub record Headed (s : List ℕ) (at : ℕ) (h : Head) : Type 0 where
-  pub is : headed h (drop at s) ≡ parse (drop at s)
-  pub fits : h .state ≡ 2 → at + h .size + 2 ≤ length s
-  pub sized : h .state ≡ 2 → h .size ≡ lengthOf (h .kind)
+pub record Headed (s : Log) (at : ℕ) (h : Head) : Type 0 where
+  pub is : headed h (drop at (s .bytes)) ≡ parseAt s at
+  pub fits : h .state ≡ 2 → at + h .size + 2 ≤ length (s .bytes)
+  pub sized : h .state ≡ 2 → h .size ≡ lengthOf (s .revision) (h .kind)
+  pub some : h .state ≡ 2 → 0 < lengthOf (s .revision) (h .kind)
   pub two : h .state ≤ 2
 
 pub record OfStack (s : List ℕ) (at : ℕ) (f : Fields) : Type 0 where
@@ -56,3 +58,8 @@ pub record OfRam (s : List ℕ) (at : ℕ) (f : Fields) : Type 0 where
   pub clock : f .clock < 4294967296
   pub place : f .place < 18446744073709551616
   pub value : f .value < 18446744073709551616
+
+-- a record of kind 6 or 7, whose clock is r
+pub record OfTimed (s : Log) (at kind r : ℕ) : Type 0 where
+  pub fields : List ℕ
+  pub is : recordAt s at kind ≡ timed kind r fields

@@ -7,7 +7,7 @@ use lib.ListN.{length}
 use lib.Dec.{eqb}
 use Rattle.choices.specs.Choice.{cond}
 use Rattle.machine.specs.Ram.{Cells}
-use Rattle.machine.specs.Records.{Record}
+use Rattle.machine.specs.Records.{Record, timed}
 use Rattle.replay_scan.specs.declared.record.Fields.{Fields}
 use Rattle.replay_scan.specs.declared.scan.Counts.{Counts}
 use Rattle.replay_scan.specs.declared.scan.Turn.{Turn}
@@ -20,7 +20,7 @@ pub record Places (s : List ℕ) (depth : ℕ) : Type 0 where
   pub high : depth ≤ length s + 16
 
 abbrev pub tallyOf : Counts → Tally
-tallyOf n = tally (n .last) (n .way) (n .stacks) (n .rams)
+tallyOf n = tally (n .last) (n .clock) (n .way) (n .stacks) (n .rams)
 
 -- no more at a clock than are allowed
 pub record Few (n : Counts) : Type 0 where
@@ -72,3 +72,7 @@ pub record Stays (j : ℕ) (n : Counts) (depth : ℕ) (x : Record) (r : Turn) : 
   pub fine : r .going ≡ true → Fine x
   pub quiet : r .going ≡ true → r .ram ≡ 0 → ramIn (x ∷ []) ≡ 0
   pub same : r .depth ≡ depth
+
+-- what a record of kind 6 or 7 with the clock t does, whatever its fields are
+pub record Times (j : ℕ) (n : Counts) (depth t : ℕ) (r : Turn) : Type 0 where
+  pub stays : (k : ℕ) (fields : List ℕ) → Stays j n depth (timed k t fields) r

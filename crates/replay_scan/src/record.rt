@@ -1,9 +1,12 @@
 // A record of a log, read where it stands.
 ghost use mathlib.Core.Path.{_≡_};
 ghost use Prim.Native.Nat.{_+_, _≤_, _<_};
+ghost use lib.Dec.{eqb};
 ghost use lib.ListN.{length, getD};
+ghost use Rattle.choices.specs.Choice.{cond};
 ghost use Rattle.machine.specs.Records.{lengthOf};
-ghost use Rattle.replay_scan.specs.RecordView.{Number, Framed, noHead, wholeHead, Headed, OfStack, OfRam};
+ghost use Rattle.replay_scan.specs.RecordView.{Number, Framed, noHead, wholeHead, Headed, OfStack, OfRam, OfTimed};
+ghost use Rattle.replay_scan.specs.Walk.{logOf};
 
 // What stands at a place: 0 the end, 1 no whole record, 2 a record of this kind, of `size` bytes behind its length field.
 pub struct Head {
@@ -69,17 +72,43 @@ fn get8(log: &[u8], at: usize) -> u64
 
 // ---- a record
 
-fn length_of(kind: u64) -> usize
-    ensures { λ r. ⌜ r ≡ lengthOf kind ⌝ }
+// Kinds 2 and 3 without a clock, in revision 1; 6 and 7 with one, in revision 2.
+fn plain_length(kind: u64) -> usize
+    ensures { λ r. ⌜ r ≡ cond (eqb kind 2) 772 (cond (eqb kind 3) 20 0) ⌝ }
 {
     match kind {
-        1 => 2,
         2 => 772,
         3 => 20,
-        4 => 23,
-        5 => 23,
         _ => 0,
     }
+}
+
+fn timed_length(kind: u64) -> usize
+    ensures { λ r. ⌜ r ≡ cond (eqb kind 6) 776 (cond (eqb kind 7) 24 0) ⌝ }
+{
+    match kind {
+        6 => 776,
+        7 => 24,
+        _ => 0,
+    }
+}
+
+fn length_of(revision: u64, kind: u64) -> usize
+    ensures { λ r. ⌜ r ≡ lengthOf revision kind ⌝ }
+{
+    if kind == 1 {
+        return 2;
+    }
+    if kind == 4 {
+        return 23;
+    }
+    if kind == 5 {
+        return 23;
+    }
+    if revision == 2 {
+        return timed_length(kind);
+    }
+    plain_length(kind)
 }
 
 fn none(state: u64) -> Head
@@ -118,9 +147,9 @@ fn whole(left: usize, kind: u64, size: usize) -> Head
 }
 
 // The frame of what stands at a place. Kinds 4 and 5 come first and by constants, so that a walk need not wait for a length that it loads.
-pub fn head_at(log: &[u8], at: usize) -> Head
+pub fn head_at(log: &[u8], revision: u64, at: usize) -> Head
     requires { ⌜ at ≤ length (now log) ⌝ }
-    ensures { λ r. ⌜ Headed (now (log .entry)) at r ⌝ }
+    ensures { λ r. ⌜ Headed (logOf revision (now (log .entry))) at r ⌝ }
 {
     let left = log.len() - at;
     if left == 0 {
@@ -138,7 +167,7 @@ pub fn head_at(log: &[u8], at: usize) -> Head
     }
     let size = (frame % 65536) as usize;
     let kind = frame / 65536;
-    let want = length_of(kind);
+    let want = length_of(revision, kind);
     if want == 0 {
         return none(1);
     }
@@ -178,4 +207,12 @@ pub fn ram_fields(log: &[u8], at: usize) -> Fields
         value: value,
         dir: dir,
     }
+}
+
+// The clock of a record of kind 6 or 7.
+pub fn timed_clock(log: &[u8], revision: u64, at: usize, kind: u64) -> u64
+    requires { ⌜ (at + lengthOf revision kind + 2 ≤ length (now log)) × (8 ≤ lengthOf revision kind + 2) × (5 < kind) ⌝ }
+    ensures { λ r. ⌜ OfTimed (logOf revision (now (log .entry))) at kind r ⌝ }
+{
+    get4(log, at + 4)
 }

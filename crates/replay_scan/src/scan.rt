@@ -1,6 +1,6 @@
 // Replay without RAM's words: one walk over the log for frames, clocks, fields and the stack.
 ghost use mathlib.Core.Path.{_≡_};
-ghost use Prim.Native.Nat.{_+_, _≤_};
+ghost use Prim.Native.Nat.{_+_, _≤_, _<_};
 ghost use lib.Dec.{eqb};
 ghost use lib.ListN.{length};
 ghost use Rattle.choices.specs.Choice.{cond, firstOf, aboveOf, differOf};
@@ -8,18 +8,22 @@ ghost use Rattle.machine.specs.Records.{stack, ram, lengthOf};
 ghost use Rattle.replay.specs.Replay.{tallyAt, fields40, mostRecords};
 ghost use Rattle.replay_scan.specs.RecordView.{recordAt};
 ghost use Rattle.replay_scan.specs.Scan.{Scanned};
-ghost use Rattle.replay_scan.specs.ScanView.{Places, tallyOf, Few, StackFault, Movable, Moved, Off, Turns, Stays};
+ghost use Rattle.replay_scan.specs.ScanView.{Places, tallyOf, Few, StackFault, Movable, Moved, Off, Turns, Stays, Times};
+ghost use Rattle.replay_scan.specs.Walk.{logOf};
 use crate::record::Fields;
 use crate::record::head_at;
 use crate::record::ram_fields;
 use crate::record::stack_fields;
+use crate::record::timed_clock;
 use choices::numbers::above;
 use choices::numbers::differ;
 use choices::numbers::first;
 
-// What has been read at the last clock: the direction of its stack records, and how many records are of the stack and of RAM.
+// The last clock; and of the clock of the last stack or RAM record the direction of its stack records, and how many records are of the
+// stack and of RAM.
 pub struct Counts {
     pub last: u64,
+    pub clock: u64,
     pub way: u64,
     pub stacks: u64,
     pub rams: u64,
@@ -45,16 +49,17 @@ pub struct Turn {
 
 // ---- what is counted
 
-// At a clock: counting starts anew where that is not the last one.
+// At a clock: counting starts anew where that is another one.
 fn counts_at(n: Counts, clock: u64) -> Counts
     requires { ⌜ Few n ⌝ }
     ensures { λ r. ⌜ (tallyOf r ≡ tallyAt (tallyOf n) clock) × Few r ⌝ }
 {
-    if n.last == clock {
+    if n.clock == clock {
         return n;
     }
     Counts {
-        last: clock,
+        last: n.last,
+        clock: clock,
         way: 0,
         stacks: 0,
         rams: 0,
@@ -171,6 +176,7 @@ fn stack_turn(words: &mut [u64], f: Fields, clock: u64, counts: Counts, depth: u
     }
     let behind = Counts {
         last: f.clock,
+        clock: f.clock,
         way: f.dir,
         stacks: n.stacks + 1,
         rams: n.rams,
@@ -199,6 +205,7 @@ fn ram_turn(f: Fields, clock: u64, counts: Counts, depth: usize) -> Turn
     }
     let behind = Counts {
         last: f.clock,
+        clock: f.clock,
         way: n.way,
         stacks: n.stacks,
         rams: n.rams + 1,
@@ -212,9 +219,38 @@ fn ram_turn(f: Fields, clock: u64, counts: Counts, depth: usize) -> Turn
     }
 }
 
+// A Tip5 or U32 record with a clock t: it moves the last clock, and is not counted.
+fn timed_turn(t: u64, clock: u64, counts: Counts, depth: usize) -> Turn
+    requires { ⌜ Few counts ⌝ }
+    ensures { λ r. ⌜ Times clock counts depth t r ⌝ }
+{
+    if clock <= t {
+        return off(0, counts, depth);
+    }
+    let fault = above(counts.last as usize, t as usize, 41);
+    if fault != 0 {
+        return off(fault, counts, depth);
+    }
+    let behind = Counts {
+        last: t,
+        clock: counts.clock,
+        way: counts.way,
+        stacks: counts.stacks,
+        rams: counts.rams,
+    };
+    Turn {
+        going: true,
+        number: 0,
+        counts: behind,
+        depth: depth,
+        ram: 0,
+    }
+}
+
 // The record of this kind at a place. Kinds 1 to 3 are only measured.
 fn record_turn(
     log: &[u8],
+    revision: u64,
     at: usize,
     kind: u64,
     words: &mut [u64],
@@ -222,8 +258,8 @@ fn record_turn(
     counts: Counts,
     depth: usize,
 ) -> Turn
-    requires { ⌜ (at + lengthOf kind + 2 ≤ length (now log)) × Places (now words) depth × Few counts ⌝ }
-    ensures { λ r. ⌜ Turns clock counts depth (now (words .entry)) (recordAt (now (log .entry)) at kind) (now (words .exit)) r ⌝ }
+    requires { ⌜ (at + lengthOf revision kind + 2 ≤ length (now log)) × (0 < lengthOf revision kind) × Places (now words) depth × Few counts ⌝ }
+    ensures { λ r. ⌜ Turns clock counts depth (now (words .entry)) (recordAt (logOf revision (now (log .entry))) at kind) (now (words .exit)) r ⌝ }
 {
     if kind == 4 {
         let f = stack_fields(log, at);
@@ -232,6 +268,10 @@ fn record_turn(
     if kind == 5 {
         let f = ram_fields(log, at);
         return ram_turn(f, clock, counts, depth);
+    }
+    if 5 < kind {
+        let t = timed_clock(log, revision, at, kind);
+        return timed_turn(t, clock, counts, depth);
     }
     Turn {
         going: true,
@@ -243,12 +283,13 @@ fn record_turn(
 }
 
 // The log up to a record that its clock or a fault ends, or behind a RAM read too many; writes the stack's words.
-pub fn scan_log(log: &[u8], words: &mut [u64], clock: u64) -> Scan
-    ensures { λ r. ⌜ Scanned (now (log .entry)) (now (words .entry)) clock (now (words .exit)) r ⌝ }
+pub fn scan_log(log: &[u8], revision: u64, words: &mut [u64], clock: u64) -> Scan
+    ensures { λ r. ⌜ Scanned (logOf revision (now (log .entry))) (now (words .entry)) clock (now (words .exit)) r ⌝ }
 {
     let mut at = 0;
     let mut counts = Counts {
         last: 0,
+        clock: 0,
         way: 0,
         stacks: 0,
         rams: 0,
@@ -256,7 +297,7 @@ pub fn scan_log(log: &[u8], words: &mut [u64], clock: u64) -> Scan
     let mut depth = 16;
     let mut ram = 0;
     loop {
-        let h = head_at(log, at);
+        let h = head_at(log, revision, at);
         if h.state < 2 {
             return Scan {
                 number: 40 * h.state,
@@ -266,7 +307,7 @@ pub fn scan_log(log: &[u8], words: &mut [u64], clock: u64) -> Scan
             };
         }
         let next = at + h.size + 2;
-        let t = record_turn(log, at, h.kind, words, clock, counts, depth);
+        let t = record_turn(log, revision, at, h.kind, words, clock, counts, depth);
         if !t.going {
             return Scan {
                 number: t.number,

@@ -10,7 +10,7 @@ use lib.ListN.{length, getD}
 use lib.Dec.{eqb}
 use Rattle.choices.specs.Choice.{cond}
 use Rattle.machine.specs.Ram.{Cells, cells, has, stored}
-use Rattle.machine.specs.Records.{Record, other, stack, ram}
+use Rattle.machine.specs.Records.{Record, other, timed, stack, ram}
 use Rattle.machine.proofs.RamLaws.{has-stored, ascending-rises}
 use Rattle.machine_ram.proofs.Order.{has-there, next-absent, next-cell}
 use Rattle.replay.specs.LastWrite.{wroteOf, hadOf}
@@ -25,6 +25,7 @@ pub wrote-append : (xs ys : List Record) (a x : ℕ) → wroteOf (xs ++ ys) a x 
 unfolding wroteOf
 wrote-append [] ys a x = refl
 wrote-append (other k s ∷ xs) ys a x = wrote-append xs ys a x
+wrote-append (timed k t s ∷ xs) ys a x = wrote-append xs ys a x
 wrote-append (stack t q d v ∷ xs) ys a x = wrote-append xs ys a x
 wrote-append (ram t b v zero ∷ xs) ys a x = wrote-append xs ys a x
 wrote-append (ram t b v (suc d) ∷ xs) ys a x = wrote-append xs ys a (cond (eqb a b) v x)
@@ -33,6 +34,7 @@ pub had-append : (xs ys : List Record) (a : ℕ) (x : Bool) → hadOf (xs ++ ys)
 unfolding hadOf
 had-append [] ys a x = refl
 had-append (other k s ∷ xs) ys a x = had-append xs ys a x
+had-append (timed k t s ∷ xs) ys a x = had-append xs ys a x
 had-append (stack t q d v ∷ xs) ys a x = had-append xs ys a x
 had-append (ram t b v zero ∷ xs) ys a x = had-append xs ys a x
 had-append (ram t b v (suc d) ∷ xs) ys a x = had-append xs ys a (cond (eqb a b) true x)
@@ -42,6 +44,7 @@ had-true : (xs : List Record) (a : ℕ) → hadOf xs a true ≡ true
 unfolding hadOf
 had-true [] a = refl
 had-true (other k s ∷ xs) a = had-true xs a
+had-true (timed k t s ∷ xs) a = had-true xs a
 had-true (stack t q d v ∷ xs) a = had-true xs a
 had-true (ram t b v zero ∷ xs) a = had-true xs a
 had-true (ram t b v (suc d) ∷ xs) a = go (eqb a b) (had-true xs a)
@@ -143,6 +146,7 @@ module _ (lo hi : ℕ) (c : Cells) where
   taken-one : (done : List Record) (r : Record) → countTo hi (taken lo hi c (done ++ (r ∷ []))) ≡ countTo hi (taken lo hi c done) + newIn lo hi c done r
   unfolding hadOf newIn
   taken-one done (other k s) = taken-kept done (other k s) (λ a x. refl)
+  taken-one done (timed k t s) = taken-kept done (timed k t s) (λ a x. refl)
   taken-one done (stack t q d v) = taken-kept done (stack t q d v) (λ a x. refl)
   taken-one done (ram t b v zero) = taken-kept done (ram t b v zero) (λ a x. refl)
   taken-one done (ram t b v (suc d)) = taken-write done (ram t b v (suc d)) b (λ a x. refl)

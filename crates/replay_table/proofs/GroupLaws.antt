@@ -10,9 +10,9 @@ use lib.ListN.{length}
 use lib.Dec.{eqb, ltb}
 use Rattle.choices.specs.Choice.{cond}
 use Rattle.machine.specs.Ram.{Cells, has}
-use Rattle.machine.specs.Records.{Record, other, stack, ram}
+use Rattle.machine.specs.Records.{Record, other, timed, stack, ram}
 use Rattle.replay.specs.LastWrite.{hadOf}
-use Rattle.replay_table.specs.Group.{inside, newIn, cellsIn, RightAt, of-other, of-stack, of-write, of-outside, WrongAt, Right, none, more, Stop, at-end, at-wrong}
+use Rattle.replay_table.specs.Group.{inside, newIn, cellsIn, RightAt, of-other, of-timed, of-stack, of-write, of-outside, WrongAt, Right, none, more, Stop, at-end, at-wrong}
 
 -- ---- inside
 
@@ -90,6 +90,7 @@ module _ (lo mid hi : ℕ) (l : lo ≤ mid) (h : mid ≤ hi) where
 
   right-both-at : {c : Cells} {done : List Record} {r : Record} → RightAt lo mid c done r → RightAt mid hi c done r → RightAt lo hi c done r
   right-both-at of-other y = of-other
+  right-both-at of-timed y = of-timed
   right-both-at of-stack y = of-stack
   right-both-at of-write y = of-write
   right-both-at (RightAt.of-read e) y = RightAt.of-read e
@@ -115,6 +116,7 @@ module _ (lo mid hi : ℕ) (l : lo ≤ mid) (h : mid ≤ hi) where
   new-both : (c : Cells) (done : List Record) (r : Record) → newIn lo mid c done r + newIn mid hi c done r ≡ newIn lo hi c done r
   unfolding newIn
   new-both c done (other k s) = refl
+  new-both c done (timed k t s) = refl
   new-both c done (stack t q d v) = refl
   new-both c done (ram t a v zero) = refl
   new-both c done (ram t a v (suc d)) = join-one a (cond (hadOf done a (has c a)) 0 1)
@@ -139,6 +141,7 @@ module _ {lo hi : ℕ} {c : Cells} where
 module _ (lo mid hi : ℕ) (h : mid ≤ hi) {c : Cells} where
   right-less-at : {done : List Record} {r : Record} → RightAt lo hi c done r → RightAt lo mid c done r
   right-less-at of-other = of-other
+  right-less-at of-timed = of-timed
   right-less-at of-stack = of-stack
   right-less-at of-write = of-write
   right-less-at (RightAt.of-read e) = RightAt.of-read e
@@ -163,6 +166,7 @@ module _ (lo hi : ℕ) (c : Cells) where
   new-few : (done : List Record) (r : Record) → newIn lo hi c done r ≤ 1
   unfolding newIn
   new-few done (other k s) = omega arith
+  new-few done (timed k t s) = omega arith
   new-few done (stack t q d v) = omega arith
   new-few done (ram t a v zero) = omega arith
   new-few done (ram t a v (suc d)) = go (inside lo hi a) (hadOf done a (has c a))

@@ -15,12 +15,12 @@ use Rattle.machine_ram.proofs.RamView.{read-at, write-at, falls-none}
 use Rattle.machine.proofs.RamLaws.{Rising, rises-ascending, place-is, held-stored, has-stored, stored-count, stored-addresses}
 use Rattle.machine_ram.proofs.Order.{has-there}
 use Rattle.replay_table.specs.Merge.{Sorted, storedAll, lacked, Merging, Merged}
-use Rattle.replay_table.specs.Group.{inside, RightAt, of-other, of-stack, of-write, of-outside, WrongAt}
-use Rattle.replay_table.specs.TableView.{Touches, by-other, by-stack, by-outside, by-unchecked, by-right, by-wrong, by-write}
+use Rattle.replay_table.specs.Group.{inside, RightAt, of-other, of-timed, of-stack, of-write, of-outside, WrongAt}
+use Rattle.replay_table.specs.TableView.{Touches, by-other, by-timed, by-stack, by-outside, by-unchecked, by-right, by-wrong, by-write}
 use Rattle.replay.specs.LastWrite.{wroteOf, hadOf}
 use Rattle.replay_table.specs.TableView.{Waits}
 use Rattle.replay_table.specs.Table.{seen, known, Paired, Table, Puts, in-table, in-late, Makes, left, merged, halved}
-use Rattle.machine.specs.Records.{Record, other, stack, ram}
+use Rattle.machine.specs.Records.{Record, other, timed, stack, ram}
 use Rattle.replay_table.proofs.CountLaws.{wrote-append, had-append}
 use Rattle.replay_table.proofs.CellsLaws.{sorted-ascends, has-none, cut-has, cut-held}
 use Rattle.replay_table.proofs.StoresLaws.{Stores, stores, stored-sorted}
@@ -382,6 +382,7 @@ module _ {lo hi : ℕ} {done : List Record} {t l : Cells} (k : Table lo hi done 
 module _ {b : Bool} {lo hi : ℕ} {c : Cells} {done : List Record} {t l : Cells} (k : Table lo hi done t l) where
   pub turn-right : {r : Record} {w : Bool} {u m : Cells} → Touches b lo hi c t l r w u m → b ≡ true → w ≡ false → RightAt lo hi c done r
   turn-right by-other x z = of-other
+  turn-right by-timed x z = of-timed
   turn-right by-stack x z = of-stack
   turn-right (by-outside {d = zero} e) x z = of-outside e
   turn-right (by-outside {d = suc d} e) x z = of-write
@@ -392,6 +393,7 @@ module _ {b : Bool} {lo hi : ℕ} {c : Cells} {done : List Record} {t l : Cells}
 
   pub turn-wrong : {r : Record} {w : Bool} {u m : Cells} → Touches b lo hi c t l r w u m → w ≡ true → (b ≡ true) × WrongAt lo hi c done r
   turn-wrong by-other z = absurd (apart (sym z))
+  turn-wrong by-timed z = absurd (apart (sym z))
   turn-wrong by-stack z = absurd (apart (sym z))
   turn-wrong (by-outside e) z = absurd (apart (sym z))
   turn-wrong (by-unchecked e) z = absurd (apart (sym z))
@@ -402,6 +404,7 @@ module _ {b : Bool} {lo hi : ℕ} {c : Cells} {done : List Record} {t l : Cells}
   -- a wrong read leaves the table as it is
   pub turn-still : {r : Record} {w : Bool} {u m : Cells} → Touches b lo hi c t l r w u m → w ≡ true → Table lo hi done u m
   turn-still by-other z = k
+  turn-still by-timed z = k
   turn-still by-stack z = k
   turn-still (by-outside e) z = k
   turn-still (by-unchecked e) z = k
@@ -412,6 +415,7 @@ module _ {b : Bool} {lo hi : ℕ} {c : Cells} {done : List Record} {t l : Cells}
   pub turn-table : {r : Record} {w : Bool} {u m : Cells} → Touches b lo hi c t l r w u m → w ≡ false → l .count < length (l .addresses) → t .count + l .count < length (t .addresses) → Table lo hi (done ++ (r ∷ [])) u m
   unfolding wroteOf hadOf
   turn-table (by-other {k = n} {s = s}) z i j = kept k (other n s) (λ _ _ _. refl) (λ _ _ _. refl)
+  turn-table (by-timed {k = n} {x = x} {s = s}) z i j = kept k (timed n x s) (λ _ _ _. refl) (λ _ _ _. refl)
   turn-table (by-stack {x = x} {q = q} {d = d} {v = v}) z i j = kept k (stack x q d v) (λ _ _ _. refl) (λ _ _ _. refl)
   turn-table (by-outside {x = x} {a = a} {v = v} {d = zero} e) z i j = kept k (ram x a v 0) (λ _ _ _. refl) (λ _ _ _. refl)
   turn-table (by-outside {x = x} {a = a} {v = v} {d = suc d} e) z i j = kept k (ram x a v (suc d)) (λ y f _. rw (other-address lo hi y a f e)) (λ y f _. rw (other-address lo hi y a f e))

@@ -7,7 +7,7 @@ use mathlib.Core.List.{List, [], _∷_, _++_}
 use lib.Dec.{ltb}
 use Rattle.choices.specs.Choice.{cond}
 use Rattle.machine.specs.Ram.{Cells, cells, held, has}
-use Rattle.machine.specs.Records.{Record, other, stack, ram}
+use Rattle.machine.specs.Records.{Record, other, timed, stack, ram}
 use Rattle.replay.specs.LastWrite.{wroteOf, hadOf}
 
 unfoldable pub inside : ℕ → ℕ → ℕ → Bool
@@ -18,6 +18,7 @@ inside lo hi a = cond (ltb a lo) false (ltb a hi)
 -- 1 for a write to an address of the group that has no cell yet
 unfoldable pub newIn : ℕ → ℕ → Cells → List Record → Record → ℕ
 newIn lo hi c done (other k s) = 0
+newIn lo hi c done (timed k t s) = 0
 newIn lo hi c done (stack t q d v) = 0
 newIn lo hi c done (ram t a v zero) = 0
 newIn lo hi c done (ram t a v (suc d)) = cond (inside lo hi a) (cond (hadOf done a (has c a)) 0 1) 0
@@ -31,6 +32,7 @@ cellsIn lo hi c done (r ∷ rs) = newIn lo hi c done r + cellsIn lo hi c (done +
 -- a read in the group has the word held; nothing is asked of other records
 pub data RightAt (lo hi : ℕ) (c : Cells) (done : List Record) : Record → Type 0 where
   of-other : {k : ℕ} {s : List ℕ} → RightAt lo hi c done (other k s)
+  of-timed : {k t : ℕ} {s : List ℕ} → RightAt lo hi c done (timed k t s)
   of-stack : {t q d v : ℕ} → RightAt lo hi c done (stack t q d v)
   of-write : {t a v d : ℕ} → RightAt lo hi c done (ram t a v (suc d))
   of-outside : {t a v : ℕ} → inside lo hi a ≡ false → RightAt lo hi c done (ram t a v 0)

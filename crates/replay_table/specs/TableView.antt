@@ -4,7 +4,7 @@ use mathlib.Core.Path.{_≡_}
 use mathlib.Core.Bool.{Bool, true, false}
 use mathlib.Core.List.{List}
 use Rattle.machine.specs.Ram.{Cells, held}
-use Rattle.machine.specs.Records.{Record, other, stack, ram}
+use Rattle.machine.specs.Records.{Record, other, timed, stack, ram}
 use Rattle.replay_table.specs.Group.{inside}
 use Rattle.replay_table.specs.Table.{seen, Puts}
 
@@ -18,6 +18,7 @@ pub record Waits (n m most late : ℕ) (r : Bool) : Type 0 where
 -- a record, with the table before and after it, and whether it is a wrong read. Reads are looked at where `checking` says so
 pub data Touches (checking : Bool) (lo hi : ℕ) (c t l : Cells) : Record → Bool → Cells → Cells → Type 0 where
   by-other : {k : ℕ} {s : List ℕ} → Touches checking lo hi c t l (other k s) false t l
+  by-timed : {k x : ℕ} {s : List ℕ} → Touches checking lo hi c t l (timed k x s) false t l
   by-stack : {x q d v : ℕ} → Touches checking lo hi c t l (stack x q d v) false t l
   by-outside : {x a v d : ℕ} → inside lo hi a ≡ false → Touches checking lo hi c t l (ram x a v d) false t l
   by-unchecked : {x a v : ℕ} → checking ≡ false → Touches checking lo hi c t l (ram x a v 0) false t l

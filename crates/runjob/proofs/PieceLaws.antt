@@ -8,6 +8,7 @@ use native.Mathlib.Omega.{arith}
 use borrow.Author.Tests.{eq-eqb, ne-eqb, le-ltb}
 use lib.ListN.{length, take, drop, length-append}
 use lib.Seq.{take-at}
+use lib.Dec.{ltb}
 use Rattle.machine.specs.declared.state.VMState.{VMState}
 use Rattle.choices.specs.Choice.{cond}
 use Rattle.machine.specs.Machine.{Code, Memory, Machine, machine}
@@ -16,13 +17,14 @@ use Rattle.machine.specs.Decide.{decideOf}
 use Rattle.machine.specs.Apply.{took, kept, lost}
 use Rattle.machine.specs.Records.{Record, logBytes}
 use Rattle.machine.specs.Step.{recordsIn}
+use Rattle.machine.specs.Lengths.{clockBytes, mostBytes}
 use Rattle.machine.specs.Path.{Ending, Path, count, Space, unlogged, bytes, tooLittle, pathBy, logFrom}
 use Rattle.machine.specs.Run.{traceA}
 use Rattle.machine.specs.Sound.{Sound}
 use Rattle.choices.proofs.Choice.{first-zero, above-not}
 use Rattle.machine.proofs.PlaceA.{machine-accepted}
 use Rattle.machine.proofs.Facts.{facts}
-use Rattle.machine.proofs.Path.{after, Goes, at-halt, at-budget, at-full, at-refusal, at-drop, by-step, goes, path-halted, path-spent, path-on, path-ends, path-row, path-sound}
+use Rattle.machine.proofs.Path.{after, Goes, at-halt, at-budget, at-full, at-refusal, at-drop, by-step, goes, path-halted, path-spent, path-on, path-ends, path-row, path-revision, path-sound}
 use Rattle.machine.proofs.Run.{trace-is}
 use Rattle.machine.proofs.Drops.{drops-deep}
 use Rattle.machine.proofs.Records.{Sized}
@@ -76,15 +78,19 @@ module _ (log out : List ℕ) (e : Ending) (n : ℕ) (s : VMState) where
 -- ---- a trace is a part of the run
 
 -- the records of a path fit their bytes, so its log gives their lines
-all-sized : {rs : List Record} → All Sized rs → AllSized rs
+all-sized : {rs : List Record} → All (Sized 1) rs → AllSized rs
 all-sized all-none = none
 all-sized (all-more p k) = more p (all-sized k)
 
-path-lines : {s : Space} {n : ℕ} {m : Machine} {p : Path} → Goes decideOf s n m p → Sound m → logLines (logBytes (logFrom decideOf m (p .machines))) ≡ linesOf (logFrom decideOf m (p .machines))
-path-lines {m = m} g s = log-lines _ (all-sized (all-map (since-sized (m .state .clock)) (chain-fine decideOf facts (path-row decideOf g .chain) s)))
+path-lines : {s : Space} {n : ℕ} {m : Machine} {p : Path} → Goes decideOf s n m p → Sound m → m .state .revision ≡ 1 →
+    logLines (logBytes (m .state .revision) (logFrom decideOf m (p .machines))) ≡ linesOf (logFrom decideOf m (p .machines))
+path-lines {m = m} {p} g s one =
+    let rs = logFrom decideOf m (p .machines) in
+    let sized = all-map (since-sized (m .state .revision) (m .state .clock)) (chain-fine decideOf facts (path-row decideOf g .chain) s) in
+    ap (λ (v : ℕ). logLines (logBytes v rs)) one ∙ log-lines rs (all-sized (subst (λ (v : ℕ). All (Sized v) rs) one sized))
 
 -- a path that was full has steps, unless there was no room for one
-full-some : {s : Space} {n : ℕ} {m : Machine} {p : Path} → Goes decideOf s n m p → tooLittle s ≡ false → isFull (p .ending) ≡ true → 0 < count p
+full-some : {s : Space} {n : ℕ} {m : Machine} {p : Path} → Goes decideOf s n m p → tooLittle (m .state .revision) s ≡ false → isFull (p .ending) ≡ true → 0 < count p
 full-some (at-halt h) l f = absurd (true≢false (sym f))
 full-some (at-budget h) l f = absurd (true≢false (sym f))
 full-some (at-full h k) l f = absurd (true≢false (sym k ∙ l))
@@ -144,38 +150,40 @@ pub record Followed (done n : ℕ) (x : Machine) (t : Ran) (y : Machine) (log : 
   pub few : t .count ≤ n
   pub some : isFull (endingIn (t .ending)) ≡ true → 0 < t .count
   pub sound : Sound y
+  pub revision : y .state .revision ≡ 1
   pub is : linesFrom done n x ≡
       pieceLines (take (t .bytes) log) (y .memory .output) (endingIn (t .ending)) (done + t .count) (y .state)
       ++ cond (isFull (endingIn (t .ending))) (linesFrom (done + t .count) (n - t .count) y) []
 
-pub followed : (done n : ℕ) (x : Machine) (t : Ran) (m : Memory) (log log2 : List ℕ) → Sound x → length log ≤ longest → 1024 ≤ length log → Traces n x log t m log2 →
+pub followed : (done n : ℕ) (x : Machine) (t : Ran) (m : Memory) (log log2 : List ℕ) → Sound x → x .state .revision ≡ 1 → length log ≤ longest → 1024 ≤ length log → Traces n x log t m log2 →
     Followed done n x t (machine (t .state) (x .code) m) log2
-unfolding traceA pieceLines
-followed done n x t m log log2 s few step w =
+unfolding traceA pieceLines mostBytes clockBytes
+followed done n x t m log log2 s one few step w =
     let z : traceA x log ≡ 0 = first-zero _ _ (above-not (length log) longest 1 few) ∙ machine-accepted x s in
     of (pathBy decideOf (bytes (length log)) n x) (goes decideOf (bytes (length log)) n x)
-    (subst (λ (p : Path). RanAs p (logBytes (logFrom decideOf x (p .machines))) (x .code) log t m log2) (trace-is decideOf n x log z) w)
+    (subst (λ (p : Path). RanAs p (logBytes (x .state .revision) (logFrom decideOf x (p .machines))) (x .code) log t m log2) (trace-is decideOf n x log z) w)
   where
-    of : (p : Path) → Goes decideOf (bytes (length log)) n x p → RanAs p (logBytes (logFrom decideOf x (p .machines))) (x .code) log t m log2 → Followed done n x t (machine (t .state) (x .code) m) log2
+    of : (p : Path) → Goes decideOf (bytes (length log)) n x p → RanAs p (logBytes (x .state .revision) (logFrom decideOf x (p .machines))) (x .code) log t m log2 → Followed done n x t (machine (t .state) (x .code) m) log2
     of p g r =
-        let own = logBytes (logFrom decideOf x (p .machines)) in
+        let own = logBytes (x .state .revision) (logFrom decideOf x (p .machines)) in
         let front : log2 ≡ own ++ drop (length own) log = r .buffer ∙ logged-front log own in
         let long : length log2 ≡ length own + length (drop (length own) log) = ap length front ∙ length-append own _ in
         let lines : logLines (take (t .bytes) log2) ≡ linesOf (logFrom decideOf x (p .machines)) =
-        ap (λ (u : List ℕ). logLines (take (t .bytes) u)) front ∙ ap logLines (take-at own _ (t .bytes) (sym (r .bytes))) ∙ path-lines g s in
+        ap (λ (u : List ℕ). logLines (take (t .bytes) u)) front ∙ ap logLines (take-at own _ (t .bytes) (sym (r .bytes))) ∙ path-lines g s one in
         subst (λ (y : Machine). Followed done n x t y log2) (sym (r .left))
         (record {
           inside = omega (arith, long, r .bytes);
           few = omega (arith, path-ends decideOf g .few, r .steps);
-          some = rw (r .steps, r .ending) (full-some g (le-ltb (length log) 1024 step));
+          some = rw (r .steps, r .ending) (full-some g (ap (λ (v : ℕ). ltb (length log) (mostBytes v)) one ∙ le-ltb (length log) 1024 step));
           sound = path-sound decideOf facts (λ m s r e. drops-deep m r e) g s;
+          revision = path-revision decideOf g ∙ one;
           is = rw (r .steps, r .ending) (part-lines g done ∙ cut (isFull (p .ending)) _ _ _ _ lines);
         })
 
 module _ (j : Pending) (c : Code) (m : Memory) (t : Ran) (n : Memory) (log log2 text : List ℕ) where
   module _ (y : Ready j c m) (room : Room log text) (z : j .number ≡ 0) (w : Traces (j .budget) (machineFor j c m) log t n log2) where
     goes-on : Followed (j .done) (j .budget) (machineFor j c m) t (machine (t .state) (codeFor j c) n) log2
-    goes-on = followed (j .done) (j .budget) (machineFor j c m) t n log log2 (y .sound z) (room .few) (room .step) w
+    goes-on = followed (j .done) (j .budget) (machineFor j c m) t n log log2 (y .sound z) (y .revision z) (room .few) (room .step) w
 
     pub piece-holds : length (n .output) ≡ length (m .output) → length log2 ≡ length log → Holds text log2 (n .output) (j .done) t
     piece-holds i k =
@@ -199,7 +207,7 @@ module _ (j : Pending) (c : Code) (m : Memory) (t : Ran) (n : Memory) (log log2 
           is = left-run j c m z ∙ rw h (f .is) ∙ ap (λ (u : List ℕ). u ++ cond e (linesFrom (j .done + t .count) (j .budget - t .count) (machine (t .state) (codeFor j c) n)) []) (sym (put-front p)) ∙ ap (λ (u : List ℕ). take at text2 ++ u) (sym (left-run (movedOn j t at) c n z));
           bytes = put-inside p;
           less = rw h (fewer e refl);
-          ready = record { opcodes = y .opcodes; arguments = y .arguments; public = y .public; secret = y .secret; digests = y .digests; sound = λ _. f .sound; output = omega (arith, i, y .output); steps = omega (arith, f .few, y .steps) };
+          ready = record { opcodes = y .opcodes; arguments = y .arguments; public = y .public; secret = y .secret; digests = y .digests; sound = λ _. f .sound; revision = λ _. f .revision; output = omega (arith, i, y .output); steps = omega (arith, f .few, y .steps) };
         }
       where
         fewer : (b : Bool) → isFull (endingIn (t .ending)) ≡ b → cond b (suc (j .budget - t .count)) 0 < suc (j .budget)
@@ -214,7 +222,7 @@ refusal-writes j c m {text2 = text2} {at} y h k p =
       is = left-refused j c m h k ∙ sym (put-front p) ∙ sym (append-nil (take at text2)) ∙ ap (λ (u : List ℕ). take at text2 ++ u) (sym (left-none (endedWith j at) c m refl));
       bytes = put-inside p;
       less = rw h (omega arith);
-      ready = record { opcodes = y .opcodes; arguments = y .arguments; public = y .public; secret = y .secret; digests = y .digests; sound = y .sound; output = y .output; steps = y .steps };
+      ready = record { opcodes = y .opcodes; arguments = y .arguments; public = y .public; secret = y .secret; digests = y .digests; sound = y .sound; revision = y .revision; output = y .output; steps = y .steps };
     }
 
 pub room-kept : {log text log2 text2 : List ℕ} → Room log text → length log2 ≡ length log → length text2 ≡ length text → Room log2 text2

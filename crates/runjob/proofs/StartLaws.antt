@@ -99,13 +99,13 @@ data Turns : Outcome → Type 0 where
   opens : {x : Machine} → Turns (took x)
   turns : {o : Outcome} → (numberBy o ≡ 0 → ⊥) → Turns o
 
-open-turns : (g : List ℕ) (c : Code) (m : Memory) (n : ℕ) → Turns (openOf g c m n)
+open-turns : (g : List ℕ) (c : Code) (m : Memory) (n : ℕ) → Turns (openOf 1 g c m n)
 unfolding openOf
-open-turns g c m n = go (eqb (openA g c m n) 0) refl
+open-turns g c m n = go (eqb (openA 1 g c m n) 0) refl
   where
-    go : (t : Bool) → eqb (openA g c m n) 0 ≡ t → Turns (cond t (took (opened g c m n)) (kept (plainly (openA g c m n))))
+    go : (t : Bool) → eqb (openA 1 g c m n) 0 ≡ t → Turns (cond t (took (opened 1 g c m n)) (kept (plainly (openA 1 g c m n))))
     go true e = opens
-    go false e = turns (eqb-false (openA g c m n) 0 e)
+    go false e = turns (eqb-false (openA 1 g c m n) 0 e)
 
 refused-lines : (budget : ℕ) (o : Outcome) → (numberBy o ≡ 0 → ⊥) → onOpened budget o ≡ notOpened (numberBy o)
 refused-lines budget (took x) h = absurd (h refl)
@@ -119,17 +119,17 @@ run-lines : (budget : ℕ) (m : Machine) → runLines budget m ≡ linesFrom 0 b
 unfolding runLines linesFrom
 run-lines budget m = let p = pathBy decideOf unlogged budget m in ap (λ (n : ℕ). pathLines n m p) (sym (zero-add (count p)))
 
-good-lines : (j : Job) → j .number ≡ 0 → jobLines j ≡ onOpened (j .budget) (openOf (j .digest) (codeOf j) (memoryOf j) (length (j .addresses)))
+good-lines : (j : Job) → j .number ≡ 0 → jobLines j ≡ onOpened (j .budget) (openOf 1 (j .digest) (codeOf j) (memoryOf j) (length (j .addresses)))
 unfolding jobLines
-good-lines j e = ap (λ (t : Bool). cond t (onOpened (j .budget) (openOf (j .digest) (codeOf j) (memoryOf j) (length (j .addresses)))) (notOpened (j .number))) (eq-eqb (j .number) 0 e)
+good-lines j e = ap (λ (t : Bool). cond t (onOpened (j .budget) (openOf 1 (j .digest) (codeOf j) (memoryOf j) (length (j .addresses)))) (notOpened (j .number))) (eq-eqb (j .number) 0 e)
 
 bad-lines : (j : Job) → (j .number ≡ 0 → ⊥) → jobLines j ≡ notOpened (j .number)
 unfolding jobLines
-bad-lines j e = ap (λ (t : Bool). cond t (onOpened (j .budget) (openOf (j .digest) (codeOf j) (memoryOf j) (length (j .addresses)))) (notOpened (j .number))) (ne-eqb (j .number) 0 e)
+bad-lines j e = ap (λ (t : Bool). cond t (onOpened (j .budget) (openOf 1 (j .digest) (codeOf j) (memoryOf j) (length (j .addresses)))) (notOpened (j .number))) (ne-eqb (j .number) 0 e)
 
 module _ (j : Job) where
   abbrev Open : Outcome
-  Open = openOf (j .digest) (codeOf j) (memoryOf j) (length (j .addresses))
+  Open = openOf 1 (j .digest) (codeOf j) (memoryOf j) (length (j .addresses))
 
   not-opened : (n : ℕ) → n ≡ firstOf (j .number) (numberBy Open) → (n ≡ 0 → ⊥) → jobLines j ≡ notOpened n
   not-opened n e h = go (eqb (j .number) 0) refl
@@ -143,14 +143,16 @@ module _ (j : Job) where
           let z = eqb-false (j .number) 0 q in
           bad-lines j z ∙ ap notOpened (sym (e ∙ first-left (j .number) (numberBy Open) z))
 
-  -- what an opened job prints, and that its machine is sound
-  is-opened : (x : Machine) → leftBy (machine noState (codeOf j) (memoryOf j)) Open ≡ x → j .number ≡ 0 → numberBy Open ≡ 0 → (jobLines j ≡ runLines (j .budget) x) × Sound x
+  -- what an opened job prints, that its machine is sound and its log of revision 1
+  is-opened : (x : Machine) → leftBy (machine noState (codeOf j) (memoryOf j)) Open ≡ x → j .number ≡ 0 → numberBy Open ≡ 0 → (jobLines j ≡ runLines (j .budget) x) × Sound x × (x .state .revision ≡ 1)
   is-opened x l z k =
       let q = go Open refl l (open-turns (j .digest) (codeOf j) (memoryOf j) (length (j .addresses))) k in
-      (good-lines j z ∙ q .0, q .1)
+      (good-lines j z ∙ q .0, q .1, q .2)
     where
-      go : (o : Outcome) → Open ≡ o → leftBy (machine noState (codeOf j) (memoryOf j)) o ≡ x → Turns o → numberBy o ≡ 0 → (onOpened (j .budget) o ≡ runLines (j .budget) x) × Sound x
-      go (took y) e q t n = (ap (runLines (j .budget)) q, subst Sound q (open-sound (j .digest) (codeOf j) (memoryOf j) (length (j .addresses)) y e .sound))
+      go : (o : Outcome) → Open ≡ o → leftBy (machine noState (codeOf j) (memoryOf j)) o ≡ x → Turns o → numberBy o ≡ 0 → (onOpened (j .budget) o ≡ runLines (j .budget) x) × Sound x × (x .state .revision ≡ 1)
+      go (took y) e q t n =
+          let k = open-sound 1 (j .digest) (codeOf j) (memoryOf j) (length (j .addresses)) y e in
+          (ap (runLines (j .budget)) q, subst Sound q (k .sound), subst (λ (z : Machine). z .state .revision ≡ 1) q (k .revision))
       go (kept r) e q (turns h) n = absurd (h n)
       go (lost r y) e q (turns h) n = absurd (h n)
 
@@ -178,14 +180,14 @@ module _ (file : List ℕ) (j : JobFile) (l l2 : Lent) (s : Says (jobOf file) j 
           ∙ ap (λ (u : List ℕ). memory z e e (logged z 0 (jobOf file .addresses)) u (m .output)) y
           ∙ ap (λ (u : List ℕ). memory z e e (logged z 0 (jobOf file .addresses)) (logged z 0 (jobOf file .values)) u) output
 
-      same-open : openOf (j .digest) Taken m (j .cells) ≡ Open (jobOf file)
+      same-open : openOf 1 (j .digest) Taken m (j .cells) ≡ Open (jobOf file)
       same-open =
-          ap (λ (g : List ℕ). openOf g Taken m (j .cells)) (s .digest) ∙ ap (λ (c : Code). openOf (jobOf file .digest) c m (j .cells)) taken
-          ∙ ap (λ (x : Memory). openOf (jobOf file .digest) (codeOf (jobOf file)) x (j .cells)) lends ∙ ap (λ (n : ℕ). openOf (jobOf file .digest) (codeOf (jobOf file)) (memoryOf (jobOf file)) n) (s .addresses .count)
+          ap (λ (g : List ℕ). openOf 1 g Taken m (j .cells)) (s .digest) ∙ ap (λ (c : Code). openOf 1 (jobOf file .digest) c m (j .cells)) taken
+          ∙ ap (λ (x : Memory). openOf 1 (jobOf file .digest) (codeOf (jobOf file)) x (j .cells)) lends ∙ ap (λ (n : ℕ). openOf 1 (jobOf file .digest) (codeOf (jobOf file)) (memoryOf (jobOf file)) n) (s .addresses .count)
 
-      module _ (r : Moved) (m2 : Memory) (o : Opens (j .digest) Taken m (j .cells) r m2) (k n : ℕ) (answers : k ≡ numberIn (r .answer)) (first : n ≡ firstOf (j .number) k) where
+      module _ (r : Moved) (m2 : Memory) (o : Opens 1 (j .digest) Taken m (j .cells) r m2) (k n : ℕ) (answers : k ≡ numberIn (r .answer)) (first : n ≡ firstOf (j .number) k) where
         by-open : k ≡ numberBy (Open (jobOf file))
-        by-open = answers ∙ number-is (r .answer) (openOf (j .digest) Taken m (j .cells)) (o .is .answer) ∙ ap numberBy same-open
+        by-open = answers ∙ number-is (r .answer) (openOf 1 (j .digest) Taken m (j .cells)) (o .is .answer) ∙ ap numberBy same-open
 
         number-of : n ≡ firstOf (jobOf file .number) (numberBy (Open (jobOf file)))
         number-of = first ∙ ap (λ (x : ℕ). firstOf x k) (s .number) ∙ ap (firstOf (jobOf file .number)) by-open
@@ -193,11 +195,11 @@ module _ (file : List ℕ) (j : JobFile) (l l2 : Lent) (s : Says (jobOf file) j 
         left-is : leftBy (machine noState (codeOf (jobOf file)) (memoryOf (jobOf file))) (Open (jobOf file)) ≡ machine (r .state) Taken m2
         left-is =
             sym
-            (o .is .left ∙ ap (λ (c : Code). leftBy (machine noState c m) (openOf (j .digest) Taken m (j .cells))) taken
-            ∙ ap (λ (x : Memory). leftBy (machine noState (codeOf (jobOf file)) x) (openOf (j .digest) Taken m (j .cells))) lends
+            (o .is .left ∙ ap (λ (c : Code). leftBy (machine noState c m) (openOf 1 (j .digest) Taken m (j .cells))) taken
+            ∙ ap (λ (x : Memory). leftBy (machine noState (codeOf (jobOf file)) x) (openOf 1 (j .digest) Taken m (j .cells))) lends
             ∙ ap (leftBy (machine noState (codeOf (jobOf file)) (memoryOf (jobOf file)))) same-open)
 
-        both : n ≡ 0 → (jobLines (jobOf file) ≡ runLines (jobOf file .budget) (machine (r .state) Taken m2)) × Sound (machine (r .state) Taken m2)
+        both : n ≡ 0 → (jobLines (jobOf file) ≡ runLines (jobOf file .budget) (machine (r .state) Taken m2)) × Sound (machine (r .state) Taken m2) × (r .state .revision ≡ 1)
         both z = let h = first-nil (jobOf file .number) (numberBy (Open (jobOf file))) (sym number-of ∙ z) in is-opened (jobOf file) (machine (r .state) Taken m2) left-is (h .0) (h .1)
 
         pub starts : j .budget < 18446744073709551616 → length (m2 .output) ≡ 4096 → Starts file (pendingOf j n (r .state)) (code (l2 .opcodes) (l2 .arguments) (l2 .public) (l2 .secret) (l2 .digests)) m2
@@ -212,6 +214,7 @@ module _ (file : List ℕ) (j : JobFile) (l l2 : Lent) (s : Says (jobOf file) j 
                     secret = filled-inside (s .secret);
                     digests = filled-inside (s .digests);
                     sound = λ z. both z .1;
+                    revision = λ z. both z .2;
                     output = omega (arith, len);
                     steps = omega (arith, fits);
                   };

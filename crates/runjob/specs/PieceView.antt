@@ -25,7 +25,8 @@ pub record Holds (text log output : List ℕ) (done : ℕ) (t : Ran) : Type 0 wh
   pub steps : done + t .count < 18446744073709551616
   pub lines : 3 * t .bytes + 25 * t .state .outputs + 96 ≤ length text
 
--- the words of the job j are inside what is lent, its machine is sound if it is opened, with at most 4,096 output words, and its steps can be counted
+-- the words of the job j are inside what is lent, its machine is sound if it is opened, with a log of revision 1 and at most 4,096 output words,
+-- and its steps can be counted
 pub record Ready (j : Pending) (c : Code) (m : Memory) : Type 0 where
   pub opcodes : j .slots ≤ length (c .opcodes)
   pub arguments : j .slots ≤ length (c .arguments)
@@ -33,6 +34,7 @@ pub record Ready (j : Pending) (c : Code) (m : Memory) : Type 0 where
   pub secret : j .secrets ≤ length (c .secret)
   pub digests : j .digests ≤ length (c .digests)
   pub sound : j .number ≡ 0 → Sound (machineFor j c m)
+  pub revision : j .number ≡ 0 → j .state .revision ≡ 1
   pub output : length (m .output) ≤ 4096
   pub steps : j .done + j .budget < 18446744073709551616
 

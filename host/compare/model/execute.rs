@@ -363,7 +363,7 @@ fn as_u32(word: u64) -> Result<u64, Refusal> {
 }
 
 fn u32_call(opcode: u16, left: u64, right: u64) -> Record {
-    Record::U32 { opcode, left, right }
+    Record::U32 { clock: None, opcode, left, right }
 }
 
 fn absorbed(sponge: State, words: [u64; 10]) -> State {
@@ -372,6 +372,6 @@ fn absorbed(sponge: State, words: [u64; 10]) -> State {
 
 fn permute(opcode: u16, state: State, calls: &mut Vec<Record>) -> State {
     let states = trace(state);
-    calls.push(Record::Tip5 { opcode, states: Box::new(states) });
+    calls.push(Record::Tip5 { clock: None, opcode, states: Box::new(states) });
     states[5]
 }

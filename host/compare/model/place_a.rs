@@ -1,11 +1,11 @@
 //! Place A: what is wrong with what a call is handed, by numbers 1 to 5, each tried over everything before the next.
 use crate::field::P;
 use crate::instructions::decode;
-use crate::lent::{answer, register, Code, MemoryView, LONGEST, STEP_BYTES};
+use crate::lent::{answer, register, step_bytes, Code, MemoryView, LONGEST};
 
 /// What a call takes besides code and memory.
 pub enum Handed<'a> {
-    Open { registers: &'a [u64], answer: &'a [u64], digest: &'a [u64], cells: u64 },
+    Open { registers: &'a [u64], answer: &'a [u64], revision: u64, digest: &'a [u64], cells: u64 },
     Step { registers: &'a [u64], answer: &'a [u64], calls: &'a [u8] },
     Run { registers: &'a [u64], answer: &'a [u64], log: &'a [u8] },
     Helpers { registers: &'a [u64], helpers: &'a [u64] },
@@ -16,11 +16,11 @@ pub fn place_a(handed: &Handed, code: Code, memory: MemoryView) -> u64 {
     if !lengths_fit(handed, code, memory) {
         return 1;
     }
-    // the registers handed in; open has none, but a count of cells
-    let (registers, digest, cells) = match *handed {
-        Handed::Open { digest, cells, .. } => (None, digest, cells),
+    // the registers handed in; open has none, but a revision and a count of cells
+    let (registers, revision, digest, cells) = match *handed {
+        Handed::Open { revision, digest, cells, .. } => (None, revision, digest, cells),
         Handed::Step { registers, .. } | Handed::Run { registers, .. } | Handed::Helpers { registers, .. } => {
-            (Some(registers), &[][..], registers[register::CELLS])
+            (Some(registers), registers[register::REVISION], &[][..], registers[register::CELLS])
         }
     };
     if registers.is_some_and(|r| r[register::CLOCK] >= 1 << 32 || r[register::HALTED] > 1 || r[register::SPONGE_SET] > 1) {
@@ -32,7 +32,7 @@ pub fn place_a(handed: &Handed, code: Code, memory: MemoryView) -> u64 {
     if let Some(r) = registers {
         words.extend([
             used(memory.op_stack, r[register::DEPTH]),
-            &r[register::SPONGE..],
+            &r[register::SPONGE..register::REVISION],
             &r[register::POINTER..=register::POINTER],
         ]);
         words.extend([used(memory.origins, r[register::JUMPS]), used(memory.destinations, r[register::JUMPS])]);
@@ -45,6 +45,9 @@ pub fn place_a(handed: &Handed, code: Code, memory: MemoryView) -> u64 {
         return 3;
     }
     if code.opcodes.iter().zip(code.arguments).any(|(&opcode, &argument)| !decode(opcode).unwrap().allows(argument)) {
+        return 4;
+    }
+    if !is_revision(revision) {
         return 4;
     }
 
@@ -72,7 +75,9 @@ fn lengths_fit(handed: &Handed, code: Code, memory: MemoryView) -> bool {
             answer.len() == answer::ALL && registers.len() == register::ALL && digest.len() == 5
         }
         Handed::Step { registers, answer, calls } => {
-            answer.len() == answer::ALL && registers.len() == register::ALL && (STEP_BYTES..=LONGEST).contains(&calls.len())
+            answer.len() == answer::ALL
+                && registers.len() == register::ALL
+                && (step_bytes(registers[register::REVISION])..=LONGEST).contains(&calls.len())
         }
         Handed::Run { registers, answer, log } => {
             answer.len() == answer::ALL && registers.len() == register::ALL && log.len() <= LONGEST
@@ -88,6 +93,11 @@ fn lengths_fit(handed: &Handed, code: Code, memory: MemoryView) -> bool {
         && memory.origins.len() == memory.destinations.len()
         && memory.addresses.len() == memory.values.len()
         && code.digests.len().is_multiple_of(5)
+}
+
+/// Document 02: a log is of revision 1 or 2.
+pub(super) fn is_revision(number: u64) -> bool {
+    matches!(number, 1 | 2)
 }
 
 /// The words whose index is below the count, or all.

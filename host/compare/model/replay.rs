@@ -1,42 +1,46 @@
 //! Replay on a hash map and plain containers: the model to compare with, and what the benchmark measures against. The cells are
 //! sorted once, at the end.
-use super::place_a::ascend;
+#![allow(clippy::too_many_arguments)]
+use super::place_a::{ascend, is_revision};
 use crate::field::P;
 use kixombu::exports::{replayed, LONGEST};
 use std::collections::HashMap;
 
-/// A call in the shape of the library's: answer, log, clock, cells, addresses, values, words.
-pub type Replay = fn(&mut [u64], &[u8], u64, u64, &mut [u64], &mut [u64], &mut [u64]) -> u64;
+/// A call in the shape of the library's: answer, log, revision, clock, cells, addresses, values, words.
+pub type Replay = fn(&mut [u64], &[u8], u64, u64, u64, &mut [u64], &mut [u64], &mut [u64]) -> u64;
 
 /// Gives the number, and fills the answer, if it has the length of one. A logged number is compared with p whole.
 pub fn replay(
     answer: &mut [u64],
     log: &[u8],
+    revision: u64,
     clock: u64,
     cells: u64,
     addresses: &mut [u64],
     values: &mut [u64],
     words: &mut [u64],
 ) -> u64 {
-    replay_by::<false>(answer, log, clock, cells, addresses, values, words)
+    replay_by::<false>(answer, log, revision, clock, cells, addresses, values, words)
 }
 
 /// The same, but that a logged number is compared with p byte by byte, which is how document 02 defines it.
 pub fn replay_by_bytes(
     answer: &mut [u64],
     log: &[u8],
+    revision: u64,
     clock: u64,
     cells: u64,
     addresses: &mut [u64],
     values: &mut [u64],
     words: &mut [u64],
 ) -> u64 {
-    replay_by::<true>(answer, log, clock, cells, addresses, values, words)
+    replay_by::<true>(answer, log, revision, clock, cells, addresses, values, words)
 }
 
 fn replay_by<const BYTES: bool>(
     answer: &mut [u64],
     log: &[u8],
+    revision: u64,
     clock: u64,
     cells: u64,
     addresses: &mut [u64],
@@ -46,8 +50,8 @@ fn replay_by<const BYTES: bool>(
     if answer.len() != replayed::ALL {
         return 1;
     }
-    let built = Built::opening(log, cells, addresses, values, words)
-        .and_then(|opening| opening.read::<BYTES>(log, clock, addresses.len(), words.len()));
+    let built = Built::opening(log, revision, cells, addresses, values, words)
+        .and_then(|opening| opening.read::<BYTES>(log, revision, clock, addresses.len(), words.len()));
     let (number, depth, cells) = match built {
         Ok(built) => built.store(addresses, values, words),
         Err(number) => (number, 0, 0),
@@ -63,7 +67,7 @@ struct Built {
     ram: HashMap<u64, u64>,
 }
 
-/// How many stack and RAM records the last clock has.
+/// How many stack and RAM records the last clock has that one of them names.
 #[derive(Default)]
 struct AtClock {
     stack_writes: u32,
@@ -102,7 +106,7 @@ impl AtClock {
 
 impl Built {
     /// Place A, and the opening's cells.
-    fn opening(log: &[u8], cells: u64, addresses: &[u64], values: &[u64], words: &[u64]) -> Result<Built, u64> {
+    fn opening(log: &[u8], revision: u64, cells: u64, addresses: &[u64], values: &[u64], words: &[u64]) -> Result<Built, u64> {
         let longest = log.len().max(addresses.len()).max(values.len()).max(words.len());
         if longest > LONGEST || addresses.len() != values.len() {
             return Err(1);
@@ -110,6 +114,9 @@ impl Built {
         let used = usize::try_from(cells).unwrap_or(usize::MAX).min(addresses.len());
         if addresses[..used].iter().chain(&values[..used]).any(|&word| word >= P) {
             return Err(2);
+        }
+        if !is_revision(revision) {
+            return Err(4);
         }
         if used as u64 != cells || !ascend(&addresses[..used]) || words.iter().any(|&word| word != 0) {
             return Err(5);
@@ -119,11 +126,20 @@ impl Built {
     }
 
     /// Place E, record by record.
-    fn read<const BYTES: bool>(mut self, log: &[u8], clock: u64, most_cells: usize, most_words: usize) -> Result<Built, u64> {
+    fn read<const BYTES: bool>(
+        mut self,
+        log: &[u8],
+        revision: u64,
+        clock: u64,
+        most_cells: usize,
+        most_words: usize,
+    ) -> Result<Built, u64> {
         // the counts are no part of `self`, where they would be kept in memory: half as long again for a stack record
-        let (mut left, mut last, mut at_clock) = (log, 0, AtClock::default());
+        let (mut left, mut at_clock) = (log, AtClock::default());
+        // kinds 6 and 7 do not count, and so the last clock may be further than the counted one
+        let (mut last, mut counted) = (0, 0);
         while !left.is_empty() {
-            let (kind, fields) = record(left).ok_or(40_u64)?;
+            let (kind, fields) = record(left, revision).ok_or(40_u64)?;
             left = &left[4 + fields.len()..];
             if kind < 4 {
                 continue;
@@ -131,6 +147,11 @@ impl Built {
             let time = number(&fields[..4]);
             if time >= clock {
                 break;
+            }
+            // document 02: kinds 6 and 7 have a clock, and their other fields are only measured
+            if kind > 5 {
+                last = not_before(last, time)?;
+                continue;
             }
             // a stack record has its direction before the value
             let at = word::<BYTES>(&fields[4..12]);
@@ -141,11 +162,9 @@ impl Built {
             let (0 | 1, Some(at), Some(value)) = (way, at, value) else {
                 return Err(40);
             };
-            if time < last {
-                return Err(41);
-            }
-            if time > last {
-                (last, at_clock) = (time, AtClock::default());
+            last = not_before(last, time)?;
+            if time > counted {
+                (counted, at_clock) = (time, AtClock::default());
             }
             match (kind, way) {
                 (4, 1) => self.stack_write(at, value, most_words, &mut at_clock)?,
@@ -217,14 +236,24 @@ impl Built {
     }
 }
 
-/// Kind and fields of the record at the start; none if it is cut short, of an unknown kind or of another length.
-fn record(log: &[u8]) -> Option<(u64, &[u8])> {
+/// The clock of a record of kinds 4 to 7, which may not be below the last one.
+fn not_before(last: u64, clock: u64) -> Result<u64, u64> {
+    if clock < last {
+        return Err(41);
+    }
+    Ok(clock)
+}
+
+/// Kind and fields of the record at the start; none if it is cut short, of a kind that the revision has not or of another length.
+fn record(log: &[u8], revision: u64) -> Option<(u64, &[u8])> {
     let (length, kind) = (number(log.get(..2)?), number(log.get(2..4)?));
     let expected = match kind {
         1 => 2,
-        2 => 772,
-        3 => 20,
+        2 if revision == 1 => 772,
+        3 if revision == 1 => 20,
         4 | 5 => 23,
+        6 if revision == 2 => 776,
+        7 if revision == 2 => 24,
         _ => return None,
     };
     if length != expected {

@@ -1,4 +1,4 @@
-//! The order of RAM's cells, on small machines; and replay.
+//! The order of RAM's cells and the log's revision, on small machines; and replay.
 use super::replay::{replay, replay_by_bytes, word};
 use super::MODEL;
 use crate::field::P;
@@ -22,6 +22,7 @@ fn machine(name: &str, argument: u64, cells: &[(u64, u64)], lent: usize, top: &[
         ..Machine::default()
     };
     machine.registers[register::DEPTH] = machine.op_stack.len() as u64;
+    machine.registers[register::REVISION] = 1;
     machine.registers[register::CELLS] = cells.len() as u64;
     for (i, &(address, value)) in cells.iter().enumerate() {
         (machine.addresses[i], machine.values[i]) = (address, value);
@@ -93,9 +94,9 @@ fn place_a_asks_for_ascending_cells() {
         let before = machine.clone();
         let number = step(&mut machine);
         assert_eq!(machine.helper_variables(&MODEL).0, number);
-        let opened = before.clone().open(&MODEL, &[0; 5], used)[answer::NUMBER];
+        let opened = before.clone().open(&MODEL, 1, &[0; 5], used)[answer::NUMBER];
         assert_eq!(opened, number);
-        let replayed = replay(&mut [0; 3], &[], 0, used, &mut addresses.to_vec(), &mut vec![1; addresses.len()], &mut []);
+        let replayed = replay(&mut [0; 3], &[], 1, 0, used, &mut addresses.to_vec(), &mut vec![1; addresses.len()], &mut []);
         assert_eq!(replayed, number);
         assert!(number == 0 || machine == before);
         number
@@ -133,13 +134,13 @@ fn replay_gives_cells_in_order() {
         let opening = ([5, 6, UNUSED, UNUSED, UNUSED, UNUSED, UNUSED], [50, 60, UNUSED, UNUSED, UNUSED, UNUSED, UNUSED]);
         let (mut addresses, mut values) = opening;
         let mut answer = [9; 3];
-        assert_eq!(replay(&mut answer, &log, u64::MAX, 2, &mut addresses, &mut values, &mut []), 0);
+        assert_eq!(replay(&mut answer, &log, 1, u64::MAX, 2, &mut addresses, &mut values, &mut []), 0);
         assert_eq!(answer, [0, 16, 6]);
         assert_eq!(addresses, [0, 3, 5, 6, 7, P - 1, UNUSED]);
         assert_eq!(values, [0, 3, 5, 60, 7, (P - 1) % 100, UNUSED]);
         // a cell too few, and nothing is changed
         let (mut addresses, mut values) = opening;
-        assert_eq!(replay(&mut answer, &log, u64::MAX, 2, &mut addresses[..5], &mut values[..5], &mut []), 44);
+        assert_eq!(replay(&mut answer, &log, 1, u64::MAX, 2, &mut addresses[..5], &mut values[..5], &mut []), 44);
         assert_eq!((answer, addresses, values), ([44, 0, 0], opening.0, opening.1));
     }
 }
@@ -177,7 +178,7 @@ fn words_are_compared_whole_or_by_bytes() {
         for log in logs {
             let expected = if number < P { 0 } else { 40 };
             for by in [replay, replay_by_bytes] {
-                assert_eq!(by(&mut [0; 3], &log, 1, 0, &mut [0], &mut [0], &mut [0]), expected, "{number:x}");
+                assert_eq!(by(&mut [0; 3], &log, 1, 1, 0, &mut [0], &mut [0], &mut [0]), expected, "{number:x}");
             }
         }
     }
@@ -193,6 +194,16 @@ fn stack_record(clock: u32, pointer: u64, write: bool, value: u64) -> Record {
 
 fn ram_record(clock: u32, address: u64, write: bool, value: u64) -> Record {
     Record::Ram { clock, address, value, write }
+}
+
+/// With a clock, of kind 7.
+fn u32_record(clock: Option<u32>) -> Record {
+    Record::U32 { clock, opcode: 4, left: 0, right: 2 }
+}
+
+/// With a clock, of kind 6. Its states need be no words.
+fn tip5_record(clock: Option<u32>) -> Record {
+    Record::Tip5 { clock, opcode: 18, states: Box::new([[u64::MAX; 16]; 6]) }
 }
 
 /// So many stack writes at a clock, upward from a pointer, each of its pointer.
@@ -215,12 +226,16 @@ fn new(clock: u32, address: u64, count: u64) -> Vec<Record> {
     (address..address + count).map(|address| ram_record(clock, address, WRITE, 7)).collect()
 }
 
-/// The number with so many cells and words lent, read up to a clock.
+/// The number of a log of revision 1 with so many cells and words lent, read up to a clock.
 fn replayed(parts: &[Vec<Record>], clock: u64, cells: usize, words: usize) -> u64 {
+    replayed_in(1, parts, clock, cells, words)
+}
+
+fn replayed_in(revision: u64, parts: &[Vec<Record>], clock: u64, cells: usize, words: usize) -> u64 {
     let log = bytes_of(&parts.concat());
     let lent = (vec![UNUSED; cells], vec![UNUSED; cells], vec![0; words]);
     let mut left = lent.clone();
-    let number = replay(&mut [9; 3], &log, clock, 0, &mut left.0, &mut left.1, &mut left.2);
+    let number = replay(&mut [9; 3], &log, revision, clock, 0, &mut left.0, &mut left.1, &mut left.2);
     assert!(number == 0 || left == lent, "refused with {number}, and something is changed");
     number
 }
@@ -235,7 +250,7 @@ fn a_clock_has_one_direction() {
     assert_eq!(number(&[up(0, 16, 3), down(1, 17, 2), up(1, 17, 1)]), 45);
     assert_eq!(number(&[up(0, 16, 3), down(1, 17, 2), up(2, 17, 1)]), 0);
     // what stands between does not part them
-    for between in [vec![], vec![Record::Reset], vec![Record::U32 { opcode: 4, left: 1, right: 2 }], absent(7, 1)] {
+    for between in [vec![], vec![Record::Reset], vec![u32_record(None)], absent(7, 1)] {
         assert_eq!(number(&[up(7, 16, 1), between, down(7, 16, 1)]), 45);
     }
     // RAM's have no direction
@@ -304,4 +319,96 @@ fn the_order_of_the_numbers() {
     assert_eq!(number(&[absent(0, 11), wrong(0)]), 45);
     assert_eq!(number(&[wrong(0), absent(0, 10)]), 43);
     assert_eq!(number(&[new(0, 0, 4), absent(0, 7)]), 44);
+}
+
+/// Document 02: a revision that is not 1 or 2 is 4, behind 3 and before 5; its call buffer is as in revision 1.
+#[test]
+fn other_revisions_are_refused() {
+    for (revision, expected) in [(0, 4), (1, 0), (2, 0), (3, 4), (u64::MAX, 4)] {
+        let mut machine = machine("nop", 0, &[], 0, &[]);
+        machine.registers[register::REVISION] = revision;
+        let least = if revision == 2 { 1028 } else { 1024 };
+        let number = |machine: &Machine, room: usize| machine.clone().step(&MODEL, &mut vec![0; room])[answer::NUMBER];
+        assert_eq!((number(&machine, least), number(&machine, least - 1)), (expected, 1), "{revision}");
+        assert_eq!(machine.helper_variables(&MODEL).0, expected);
+        assert_eq!(machine.clone().run(&MODEL, 1)[answer::NUMBER], expected);
+        assert_eq!(machine.clone().open(&MODEL, revision, &[0; 5], 0)[answer::NUMBER], expected);
+        assert_eq!(replay(&mut [0; 3], &[], revision, 0, 0, &mut [], &mut [], &mut []), expected);
+        // replay's order: 1 and 2 come before it, 5 and the log behind it
+        let replayed = |log: &[u8], addresses: &mut [u64], values: &mut [u64]| {
+            replay(&mut [0; 3], log, revision, 9, addresses.len() as u64, addresses, values, &mut [])
+        };
+        assert_eq!(replayed(&[], &mut [P], &mut [0, 0]), 1);
+        assert_eq!(replayed(&[], &mut [P], &mut [0]), 2);
+        assert_eq!(replayed(&[], &mut [4, 3], &mut [0; 2]), if expected == 0 { 5 } else { 4 });
+        assert_eq!(replayed(&[0], &mut [3, 4], &mut [0; 2]), if expected == 0 { 40 } else { 4 });
+        // 3 comes before, and 5 behind
+        machine.registers[register::CELLS] = 1;
+        assert_eq!(number(&machine, least), if expected == 0 { 5 } else { expected });
+        machine.opcodes[0] = 5;
+        assert_eq!(number(&machine, least), 3);
+    }
+}
+
+/// The clock of kinds 6 and 7 is that before the step, and moves replay's last clock.
+#[test]
+fn revision_2_has_clocks() {
+    let mut machine = machine("split", 0, &[], 0, &[1 << 33]);
+    machine.op_stack.push(0);
+    machine.registers[register::REVISION] = 2;
+    machine.registers[register::CLOCK] = 7;
+    let mut buffer = [0; STEP_BYTES];
+    let bytes = machine.step(&MODEL, &mut buffer)[answer::BYTES] as usize;
+    let records: Vec<Record> = kixombu::records(&buffer[..bytes]).collect::<Result<_, _>>().unwrap();
+    assert_eq!(records[0], Record::U32 { clock: Some(7), opcode: 4, left: 0, right: 2 });
+    assert_eq!((bytes, records.len()), (26 + 25, 2));
+
+    for record in [u32_record, tip5_record] {
+        let clocked = |clock| vec![record(Some(clock))];
+        let number = |revision, parts: &[Vec<Record>], clock| replayed_in(revision, parts, clock, 0, 0);
+        assert_eq!(number(2, &[clocked(4), absent(4, 1)], 9), 0);
+        assert_eq!(number(2, &[clocked(4), absent(3, 1)], 9), 41);
+        assert_eq!(number(2, &[absent(4, 1), clocked(3)], 9), 41);
+        assert_eq!(number(2, &[clocked(4), clocked(3)], 9), 41);
+        // the stop comes before the clock
+        assert_eq!(number(2, &[clocked(4), absent(3, 1)], 4), 0);
+        assert_eq!(number(2, &[absent(4, 1), clocked(5), clocked(3), absent(4, 11)], 5), 0);
+        assert_eq!(number(2, &[absent(4, 1), clocked(3)], 3), 0);
+        // the other revision's kinds, wherever they are read; without a clock also where nothing else would be
+        assert_eq!(number(2, &[vec![record(None)]], 0), 40);
+        assert_eq!(number(1, &[vec![record(None)]], 0), 0);
+        assert_eq!(number(1, &[clocked(4)], 4), 40);
+        assert_eq!(number(1, &[absent(4, 1), clocked(3)], 9), 40);
+        assert_eq!(number(2, &[absent(4, 1), vec![record(None)], clocked(4)], 4), 0);
+    }
+}
+
+/// Kinds 6 and 7 do not count, and do not part a clock's records; a clock that they name first is counted from its first record.
+#[test]
+fn clocks_of_revision_2_do_not_count() {
+    for record in [u32_record, tip5_record] {
+        let clocked = |clock| vec![record(Some(clock))];
+        let number = |parts: &[Vec<Record>]| replayed_in(2, parts, 100, 100, 100);
+        // as sponge_absorb_mem and then merkle_step_mem
+        assert_eq!(number(&[absent(0, 10), clocked(1), absent(1, 1)]), 0);
+        assert_eq!(number(&[absent(0, 10), clocked(1), new(1, 0, 10)]), 0);
+        assert_eq!(number(&[absent(0, 10), clocked(1), absent(1, 11)]), 45);
+        assert_eq!(number(&[up(0, 16, 10), clocked(1), down(1, 16, 10)]), 0);
+        assert_eq!(number(&[up(0, 16, 10), clocked(5), clocked(7), down(7, 16, 10), clocked(7), up(8, 16, 1)]), 0);
+        assert_eq!(number(&[clocked(3), up(3, 16, 10), clocked(3)]), 0);
+        // at the same clock
+        assert_eq!(number(&[up(0, 16, 10), clocked(0), up(0, 26, 1)]), 45);
+        assert_eq!(number(&[absent(4, 10), clocked(4), absent(4, 1)]), 45);
+        assert_eq!(number(&[up(4, 16, 1), clocked(4), down(4, 16, 1)]), 45);
+        assert_eq!(number(&[absent(0, 10), clocked(1), absent(1, 10), clocked(1), absent(1, 1)]), 45);
+        // as many of them as there are
+        assert_eq!(number(&[vec![record(Some(6)); 30], absent(6, 10), vec![record(Some(6)); 30]]), 0);
+        // behind a clock of theirs, one that falls to the counted clock
+        assert_eq!(number(&[absent(0, 10), clocked(1), absent(0, 1)]), 41);
+        // what stands at the stop or behind it is not counted
+        assert_eq!(replayed_in(2, &[absent(0, 10), clocked(1), absent(0, 1)], 1, 0, 0), 0);
+    }
+    // the request's logs in revision 2
+    assert_eq!(replayed_in(2, &[up(7, 16, 1), down(7, 16, 1)], 100, 0, 1), 45);
+    assert_eq!(replayed_in(2, &[up(7, 16, 1), down(8, 16, 1)], 100, 0, 1), 0);
 }

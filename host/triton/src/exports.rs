@@ -36,8 +36,10 @@ pub mod register {
     pub const SPONGE_SET: usize = 10;
     /// The first of the sponge's sixteen words.
     pub const SPONGE: usize = 11;
+    /// The log's revision, 1 or 2; any other is refused with 4.
+    pub const REVISION: usize = 27;
     /// How many words there are.
-    pub const ALL: usize = 27;
+    pub const ALL: usize = 28;
 }
 
 /// Places in the answer slice.
@@ -83,8 +85,20 @@ pub mod replayed {
 /// No lent slice has more elements.
 pub const LONGEST: usize = 16_777_216;
 
-/// The most bytes that one step records.
-pub const STEP_BYTES: usize = 1024;
+/// The most bytes that one step records, in any revision of the log.
+pub const STEP_BYTES: usize = 1028;
+
+/// The most bytes that one step records: 1,028 in revision 2. A call buffer has at least as many, and of any other number as in
+/// revision 1, since lengths are tried before the revision.
+pub const fn step_bytes(revision: u64) -> usize {
+    match revision {
+        2 => STEP_BYTES,
+        _ => 1024,
+    }
+}
+
+/// The interface that this crate is written for, as [`interface_version`] gives it: its parameters and its words.
+pub const INTERFACE: u64 = 1;
 
 /// The program and the inputs.
 #[derive(Clone, Copy, Debug)]
@@ -149,9 +163,12 @@ type MutWords = *mut u64;
 #[rustfmt::skip]
 #[link(name = "exports", kind = "static")]
 extern "C" {
-    // exports/src/calls.rt: triton_open(registers, answer, digest, cells, code, memory)
+    // exports/src/calls.rt: triton_interface_version()
+    fn triton_interface_version() -> u64;
+
+    // exports/src/calls.rt: triton_open(registers, answer, revision, digest, cells, code, memory)
     fn triton_open(
-        registers: MutWords, _: usize, answer: MutWords, _: usize, digest: Words, _: usize, cells: u64,
+        registers: MutWords, _: usize, answer: MutWords, _: usize, revision: u64, digest: Words, _: usize, cells: u64,
         opcodes: Words, _: usize, arguments: Words, _: usize, public: Words, _: usize, secret: Words, _: usize, digests: Words, _: usize,
         op_stack: MutWords, _: usize, origins: MutWords, _: usize, destinations: MutWords, _: usize,
         addresses: MutWords, _: usize, values: MutWords, _: usize, output: MutWords, _: usize,
@@ -200,9 +217,9 @@ extern "C" {
         addresses: Words, _: usize, values: Words, _: usize, output: Words, _: usize,
     ) -> u64;
 
-    // exports/src/calls.rt: triton_replay(answer, log, clock, cells, addresses, values, words)
+    // exports/src/calls.rt: triton_replay(answer, log, revision, clock, cells, addresses, values, words)
     fn triton_replay(
-        answer: MutWords, _: usize, log: *const u8, _: usize, clock: u64, cells: u64,
+        answer: MutWords, _: usize, log: *const u8, _: usize, revision: u64, clock: u64, cells: u64,
         addresses: MutWords, _: usize, values: MutWords, _: usize, words: MutWords, _: usize,
     ) -> u64;
 }
@@ -225,11 +242,30 @@ macro_rules! call {
     };
 }
 
-/// `triton_open`: gives the number, as each of these calls does, 0 where nothing is refused. `cells` RAM cells are used.
+/// `triton_interface_version`: the number of the interface that the linked library has.
+pub fn interface_version() -> u64 {
+    // SAFETY: it takes nothing
+    unsafe { triton_interface_version() }
+}
+
+/// Whether the linked library has the interface that this crate is written for. [`Job::open`](crate::Job::open) and
+/// [`replay`](crate::replay()) look once, and panic with the text where it has not; who uses these calls looks for themselves.
+pub fn check_interface() -> Result<(), String> {
+    match interface_version() {
+        INTERFACE => Ok(()),
+        other => Err(format!(
+            "this crate needs a library with interface {INTERFACE}, and the one linked has interface {other}: its calls take other \
+             parameters or give other words, so none may be made; build crate and library from one state of the sources"
+        )),
+    }
+}
+
+/// `triton_open`: gives the number, as each of these calls does, 0 where nothing is refused. The log is of `revision`, and `cells`
+/// RAM cells are used.
 #[rustfmt::skip]
-pub fn open(registers: &mut [u64], answer: &mut [u64], digest: &[u64], cells: u64, code: Code, memory: Memory) -> u64 {
+pub fn open(registers: &mut [u64], answer: &mut [u64], revision: u64, digest: &[u64], cells: u64, code: Code, memory: Memory) -> u64 {
     call!(triton_open,
-        [registers.as_mut_ptr(), registers.len(), answer.as_mut_ptr(), answer.len(), digest.as_ptr(), digest.len(), cells],
+        [registers.as_mut_ptr(), registers.len(), answer.as_mut_ptr(), answer.len(), revision, digest.as_ptr(), digest.len(), cells],
         code, memory, as_mut_ptr, [])
 }
 
@@ -273,11 +309,13 @@ pub fn helper_variables(registers: &[u64], helpers: &mut [u64], code: Code, memo
         code, memory, as_ptr, [])
 }
 
-/// `triton_replay`: the log read up to `clock` from opening RAM, of which `cells` cells are used and ascend. `words`, for the
+/// `triton_replay`: the log, of `revision`, read up to `clock` from opening RAM, of which `cells` cells are used and ascend. `words`, for the
 /// stack's words below the top sixteen, must be all 0.
+#[allow(clippy::too_many_arguments)]
 pub fn replay(
     answer: &mut [u64],
     log: &[u8],
+    revision: u64,
     clock: u64,
     cells: u64,
     addresses: &mut [u64],
@@ -291,6 +329,7 @@ pub fn replay(
             answer.len(),
             log.as_ptr(),
             log.len(),
+            revision,
             clock,
             cells,
             addresses.as_mut_ptr(),

@@ -1,8 +1,9 @@
 //! A job over memory of its own.
 use crate::exports::{self, answer, ending, register, Code, Memory, MemoryView, LONGEST, STEP_BYTES};
 use crate::replay::{replay, Replayed};
-use crate::Refusal;
+use crate::{Refusal, Revision};
 use std::fmt::{Debug, Formatter, Result as Formatted};
+use std::sync::Once;
 
 /// One slot of a program: an instruction with an argument stands in two.
 #[derive(Clone, Copy, Debug, Default, PartialEq, Eq, Hash)]
@@ -29,6 +30,8 @@ pub struct Opening {
     /// Address and value, ascending by address: others are refused as they stand (5; [`OutOfOrder`](crate::OutOfOrder) says
     /// where). [`with_ram`](Self::with_ram) takes them in any order.
     pub ram: Vec<(u64, u64)>,
+    /// Of the call log that the job's steps write.
+    pub revision: Revision,
 }
 
 impl Opening {
@@ -69,12 +72,13 @@ impl Sizes {
 
 /// How a run ended.
 #[derive(Clone, Copy, Debug, PartialEq, Eq)]
+#[non_exhaustive]
 pub enum Ending {
     /// By halt, now or before.
     Halted,
     /// As many steps succeeded as the budget allows, and the machine has not halted.
     Spent,
-    /// Of [`Job::trace_execution`]: the log has no room for a further step, which takes up to [`STEP_BYTES`] bytes.
+    /// Of [`Job::trace_execution`]: the log has no room for a further step, which takes up to [`Revision::step_bytes`] bytes.
     LogFull,
     /// A step was refused; those before it are kept.
     Refused(Refusal),
@@ -114,11 +118,17 @@ pub struct Job {
     calls: [u8; STEP_BYTES],
     /// For replay.
     opening_ram: Vec<(u64, u64)>,
+    revision: Revision,
 }
 
 impl Job {
     /// Opens a job, or says what is wrong with what it is opened with (numbers 1 to 5).
+    ///
+    /// # Panics
+    ///
+    /// Where the linked library has another interface than this crate ([`check_interface`](exports::check_interface)).
     pub fn open(opening: &Opening, sizes: Sizes) -> Result<Job, Refusal> {
+        need_interface();
         let (addresses, values) = cells(&opening.ram, sizes.ram);
         let mut job = Job {
             registers: [0; register::ALL],
@@ -135,10 +145,12 @@ impl Job {
             output: zeros(sizes.output),
             calls: [0; STEP_BYTES],
             opening_ram: opening.ram.clone(),
+            revision: opening.revision,
         };
         let mut answer = [0; answer::ALL];
         let (registers, code, memory, _) = job.parts();
-        exports::open(registers, &mut answer, &opening.digest, opening.ram.len() as u64, code, memory);
+        let (revision, cells) = (opening.revision.number(), opening.ram.len() as u64);
+        exports::open(registers, &mut answer, revision, &opening.digest, cells, code, memory);
         match ran(&answer).ending {
             Ending::Refused(refusal) => Err(refusal),
             _ => Ok(job),
@@ -190,7 +202,7 @@ impl Job {
     /// Replays a log of this job from its opening RAM: what its step before `clock` left (the opening for 0). As much is lent
     /// as to the job itself. The job stays as it is.
     pub fn replay(&self, log: &[u8], clock: u64) -> Result<Replayed, Refusal> {
-        replay(log, clock, &self.opening_ram, self.addresses.len(), self.op_stack.len())
+        replay(log, self.revision, clock, &self.opening_ram, self.addresses.len(), self.op_stack.len())
     }
 
     fn parts(&mut self) -> (&mut [u64], Code<'_>, Memory<'_>, &mut [u8]) {
@@ -249,6 +261,11 @@ impl Job {
         [register::PUBLICS, register::SECRETS, register::DIGESTS].map(|place| self.count(place))
     }
 
+    /// Of the call log that the job's steps write.
+    pub fn revision(&self) -> Revision {
+        self.revision
+    }
+
     /// None before sponge_init.
     pub fn sponge(&self) -> Option<[u64; 16]> {
         let words = || std::array::from_fn(|i| self.registers[register::SPONGE + i]);
@@ -289,8 +306,15 @@ pub(crate) fn pairs<'a>(left: &'a [u64], right: &'a [u64], n: usize) -> impl Exa
     left[..n].iter().copied().zip(right[..n].iter().copied())
 }
 
+/// Of an answer that says refused. The library gives 0 with none; were it to, the number would be unknown.
 pub(crate) fn refusal(number: u64, words: [u64; 3]) -> Refusal {
-    Refusal::new(number, words).unwrap_or_else(|| panic!("the library gave {number}, which is no refusal's number"))
+    Refusal::new(number, words).unwrap_or(Refusal::Unknown { number, words })
+}
+
+/// Looks at the library once.
+pub(crate) fn need_interface() {
+    static ONCE: Once = Once::new();
+    ONCE.call_once(|| exports::check_interface().unwrap_or_else(|text| panic!("{text}")));
 }
 
 fn ran(answer: &[u64; answer::ALL]) -> Ran {

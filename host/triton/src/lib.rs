@@ -42,6 +42,7 @@ mod records;
 mod refusal;
 mod registers;
 mod replay;
+mod revision;
 pub mod text;
 
 pub use exports::{LONGEST, STEP_BYTES};
@@ -49,9 +50,10 @@ pub use frame::Fault;
 pub use job::{Ending, Job, Opening, Ran, Sizes, Slot};
 pub use job_file::JobFile;
 pub use order::OutOfOrder;
-pub use records::{bytes_of, records, Record};
+pub use records::{bytes_of, records, records_of, Record};
 pub use refusal::Refusal;
 pub use replay::{replay, Replayed};
+pub use revision::Revision;
 
 /// Words are whole numbers below this one, 2^64 - 2^32 + 1.
 pub const P: u64 = 0xffff_ffff_0000_0001;

@@ -1,7 +1,9 @@
 //! kixombu: jobs and their logs on the command line.
 #![forbid(unsafe_code)]
 use kixombu::listing::{print, trace_in_pieces, Printed};
-use kixombu::{records, replay, text, Ending, Job, JobFile, OutOfOrder, Refusal, Sizes, LONGEST};
+use kixombu::{
+    exports, records, records_of, replay, text, Ending, Job, JobFile, Opening, OutOfOrder, Refusal, Revision, Sizes, LONGEST,
+};
 use std::ffi::{OsStr, OsString};
 use std::fmt::Display;
 use std::fs::File;
@@ -11,11 +13,11 @@ use std::process::ExitCode;
 use std::time::{Duration, Instant};
 
 const HELP: &str = "\
-kixombu make TEXT [JOB]         a job file from text
-kixombu run JOB                 runs a job and lists it as runjob does
-kixombu record JOB LOG          runs a job and writes its call log
-kixombu replay JOB LOG CLOCK    replays a log from the job's opening RAM up to a clock: depth, cells, stack, RAM
-kixombu show LOG                a log's records, one to a line
+kixombu make TEXT [JOB]                    a job file from text
+kixombu run JOB                            runs a job and lists it as runjob does
+kixombu record JOB LOG [REVISION]          runs a job and writes its call log
+kixombu replay JOB LOG CLOCK [REVISION]    replays a log from the job's opening RAM up to a clock: depth, cells, stack, RAM
+kixombu show LOG                           a log's records, one to a line
 kixombu --help | --version
 
 A file - is standard input or standard output; without JOB, make writes to standard output.
@@ -24,6 +26,7 @@ A text has one item to a line or between semicolons, and remarks behind #:
     push 3; call loop; halt
     loop: addi -1; dup 0; skiz; recurse; return
 Also slot OPCODE ARGUMENT, a slot as it is, and byte N. The digest comes first; ram's addresses ascend; -1 stands for p - 1.
+A log's revision is 1, or 2, in which tip5 and u32 records have a clock; without REVISION it is 1. show reads both.
 A job is lent 4,096 op stack words, 1,024 jump stack entries, 4,096 RAM cells and 4,096 output words; without a budget it
 may take 16,000,000 steps.
 
@@ -43,6 +46,10 @@ impl From<io::Error> for Failure {
 type Outcome = Result<u8, Failure>;
 
 fn main() -> ExitCode {
+    if let Err(text) = exports::check_interface() {
+        note(text);
+        return ExitCode::from(2);
+    }
     let words: Vec<OsString> = std::env::args_os().skip(1).collect();
     let words: Vec<&OsStr> = words.iter().map(OsString::as_os_str).collect();
     let status = dispatch(&words).unwrap_or_else(|Failure(status, text)| {
@@ -66,8 +73,8 @@ fn dispatch(words: &[&OsStr]) -> Outcome {
         ("make", [text]) => make(text, OsStr::new("-")),
         ("make", [text, job]) => make(text, job),
         ("run", [job]) => run(job),
-        ("record", [job, log]) => record(job, log),
-        ("replay", [job, log, clock]) => replay_to(job, log, clock),
+        ("record", [job, log, rest @ ..]) if rest.len() < 2 => record(job, log, revision(rest)?),
+        ("replay", [job, log, clock, rest @ ..]) if rest.len() < 2 => replay_to(job, log, clock, revision(rest)?),
         ("show", [log]) => show(log),
         _ => {
             let usage = HELP.lines().find(|line| line.starts_with(&format!("kixombu {verb} ")));
@@ -120,9 +127,18 @@ fn run(job_name: &OsStr) -> Outcome {
     }
 }
 
-fn record(job_name: &OsStr, log_name: &OsStr) -> Outcome {
+/// Revision 1 where none is named.
+fn revision(word: &[&OsStr]) -> Result<Revision, Failure> {
+    let Some(word) = word.first() else {
+        return Ok(Revision::default());
+    };
+    let revision = word.to_str().and_then(|word| word.parse().ok()).and_then(Revision::new);
+    revision.ok_or_else(|| of(2, word, "a log's revision is 1 or 2; see kixombu --help"))
+}
+
+fn record(job_name: &OsStr, log_name: &OsStr, revision: Revision) -> Outcome {
     let job_file = job_file(job_name, &read(job_name, JobFile::MOST_BYTES)?)?;
-    let opening = &job_file.opening;
+    let opening = &Opening { revision, ..job_file.opening };
     let mut job = Job::open(opening, Sizes::RUNJOB).map_err(|refusal| not_opened(job_name, refusal, &opening.ram))?;
     let mut out = create(log_name)?;
     let mut progress = Progress::new(job_file.budget.into());
@@ -144,20 +160,23 @@ fn record(job_name: &OsStr, log_name: &OsStr) -> Outcome {
     Ok(ended(ran.ending))
 }
 
-fn replay_to(job_name: &OsStr, log_name: &OsStr, clock: &OsStr) -> Outcome {
+fn replay_to(job_name: &OsStr, log_name: &OsStr, clock: &OsStr, revision: Revision) -> Outcome {
     let Some(clock) = clock.to_str().and_then(|clock| clock.parse().ok()) else {
         return Err(of(2, clock, "a clock is a whole number below 2^64; see kixombu --help"));
     };
     let opening = job_file(job_name, &read(job_name, JobFile::MOST_BYTES)?)?.opening;
     let log = read(log_name, LONGEST)?;
     let sizes = Sizes::RUNJOB;
-    let replayed = replay(&log, clock, &opening.ram, sizes.ram, sizes.op_stack).map_err(|refusal| {
+    let replayed = replay(&log, revision, clock, &opening.ram, sizes.ram, sizes.op_stack).map_err(|refusal| {
         let more = match refusal {
             // of the job's RAM
             Refusal::NotAWord | Refusal::BadState => return not_opened(job_name, refusal, &opening.ram),
             Refusal::BadShape if log.len() > LONGEST => format!("; a log has at most {LONGEST} bytes, this one has more"),
             // the first broken record is the one that replay has found
-            Refusal::RecordBroken => records(&log).find_map(Result::err).map_or(String::new(), |fault| format!("; {fault}")),
+            Refusal::RecordBroken => {
+                let fault = records_of(&log, revision).find_map(Result::err);
+                fault.map_or(String::new(), |fault| format!("; {fault}"))
+            }
             _ => String::new(),
         };
         Failure(1, format!("{} to clock {clock}: {refusal}{more}", Path::new(log_name).display()))

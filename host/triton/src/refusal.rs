@@ -4,7 +4,7 @@ use std::fmt::{Display, Formatter, Result};
 
 /// Why a call was turned down. The names of 3, 4 and 10 to 23 are those of the original Rust's `InstructionError` and of the
 /// `OpStackError` within it (12, there `TooShallow`, and 13); it has none for the others. `Display` says what was wanted and, where
-/// the refusal carries it, what was found.
+/// the refusal carries it, what was found. Later requests add numbers, and so cases.
 ///
 /// ```
 /// use kixombu::Refusal;
@@ -15,6 +15,7 @@ use std::fmt::{Display, Formatter, Result};
 /// assert_eq!(refusal.to_string(), "AssertionFailed (18): assert needs 1 on top of the stack, found 2");
 /// ```
 #[derive(Clone, Copy, Debug, PartialEq, Eq, Hash)]
+#[non_exhaustive]
 pub enum Refusal {
     /// 1, place A: a slice over the limit or of a length that does not fit.
     BadShape,
@@ -22,7 +23,7 @@ pub enum Refusal {
     NotAWord,
     /// 3, place A: a slot whose opcode is no instruction's.
     InvalidOpcode,
-    /// 4, place A: an argument that its instruction does not take.
+    /// 4, place A: an argument that its instruction does not take, or a revision of the log that there is not.
     IllegalArgument,
     /// 5, place A: a count outside its slice, an unused word that is not 0, RAM's cells not ascending by address, for which
     /// [`OutOfOrder`](crate::OutOfOrder) says where.
@@ -97,12 +98,20 @@ pub enum Refusal {
 
     /// 50: no call's; a job file that is broken.
     JobFileBroken,
+
+    /// A number that this crate does not know, of a library with more refusals.
+    Unknown {
+        /// As the library gave it.
+        number: u64,
+        /// The three words with it.
+        words: [u64; 3],
+    },
 }
 
 use Refusal::*;
 
 impl Refusal {
-    /// The refusal of a number and the three words that come with it; none for 0 and numbers that no call gives.
+    /// The refusal of a number and the three words that come with it; none for 0.
     pub fn new(number: u64, words: [u64; 3]) -> Option<Refusal> {
         Some(match number {
             1 => BadShape,
@@ -136,7 +145,8 @@ impl Refusal {
             44 => SliceFull,
             45 => NotOneStep,
             50 => JobFileBroken,
-            _ => return None,
+            0 => return None,
+            _ => Unknown { number, words },
         })
     }
 
@@ -183,6 +193,7 @@ impl Refusal {
             SliceFull => (44, "SliceFull"),
             NotOneStep => (45, "NotOneStep"),
             JobFileBroken => (50, "JobFileBroken"),
+            Unknown { number, .. } => (number, "Unknown"),
         }
     }
 
@@ -193,6 +204,7 @@ impl Refusal {
             EmptyPublicInput(left) | EmptySecretInput(left) => [left, 0, 0],
             AssertionFailed { expected, actual } => [expected, actual, 0],
             VectorAssertionFailed { index, expected, actual } => [index, expected, actual],
+            Unknown { words, .. } => words,
             _ => [0; 3],
         }
     }
@@ -205,7 +217,9 @@ impl Display for Refusal {
             BadShape => write!(f, "a slice has more than 16,777,216 elements or a length that does not fit"),
             NotAWord => write!(f, "words must be below 2^64 - 2^32 + 1, found one that is not"),
             InvalidOpcode => write!(f, "a slot's opcode is no instruction's"),
-            IllegalArgument => write!(f, "a slot's argument is none that its instruction takes"),
+            IllegalArgument => {
+                write!(f, "a slot's argument is none that its instruction takes, or the log's revision is not 1 or 2")
+            }
             BadState => write!(f, "a count outside its slice, an unused word that is not 0, or RAM's cells not ascending"),
             MachineHalted => write!(f, "the machine has halted and takes no further step"),
             InstructionPointerOverflow => write!(f, "an instruction is needed, found the program's end"),
@@ -238,6 +252,9 @@ impl Display for Refusal {
             SliceFull => write!(f, "a write needs a word or a cell more than were lent"),
             NotOneStep => write!(f, "the records of one clock must be at most ten of the stack, all one way, and ten of RAM"),
             JobFileBroken => write!(f, "the job file is broken"),
+            Unknown { words: [a, b, c], .. } => {
+                write!(f, "a refusal that this crate does not know, with the words {a}, {b}, {c}")
+            }
         }
     }
 }
@@ -256,14 +273,19 @@ mod tests {
     fn numbers_and_words_come_back() {
         for number in 0..100 {
             let refusal = Refusal::new(number, [7, 8, 9]);
-            assert_eq!(refusal.is_some(), NUMBERS.contains(&number), "{number}");
+            assert_eq!(refusal.is_some(), number != 0, "{number}");
+            let is_known = refusal.is_some_and(|refusal| !matches!(refusal, Refusal::Unknown { .. }));
+            assert_eq!(is_known, NUMBERS.contains(&number), "{number}");
             if let Some(refusal) = refusal {
                 assert_eq!(refusal.number(), number);
                 assert_eq!(format!("{refusal:?}").split(['(', ' ']).next(), Some(refusal.name()));
                 assert_eq!(Refusal::new(number, refusal.words()), Some(refusal));
             }
         }
-        assert_eq!(Refusal::new(u64::MAX, [0; 3]), None);
+        let unknown = Refusal::new(u64::MAX, [7, 8, 9]).unwrap();
+        assert_eq!((unknown.number(), unknown.words()), (u64::MAX, [7, 8, 9]));
+        let text = "Unknown (18446744073709551615): a refusal that this crate does not know, with the words 7, 8, 9";
+        assert_eq!(unknown.to_string(), text);
     }
 
     /// Which refusals carry words is document 01's place C.

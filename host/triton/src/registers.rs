@@ -3,7 +3,7 @@ use crate::exports::register;
 use std::mem::{align_of, offset_of, size_of};
 
 /// The registers as the record that [`step_registers`](crate::exports::step_registers) is lent: what the words of a register slice
-/// say, under names, as C lays it out (208 bytes without a gap; `Registers` of the crate `exports_calls`, `src/thin.rt`).
+/// say, under names, as C lays it out (216 bytes without a gap; `Registers` of the crate `exports_calls`, `src/thin.rt`).
 #[repr(C)]
 #[derive(Clone, Copy, Debug, PartialEq, Eq)]
 pub struct Registers {
@@ -37,20 +37,25 @@ pub struct Registers {
     pub reserved4: u32,
     /// The sponge's words.
     pub words: [u64; 16],
+    /// The log's revision.
+    pub revision: u64,
 }
 
 // as src/lib.rt of the crate exports has it
 const _: () = {
-    assert!(size_of::<Registers>() == 208 && align_of::<Registers>() == 8);
+    assert!(size_of::<Registers>() == 216 && align_of::<Registers>() == 8);
     assert!(offset_of!(Registers, clock) == 0 && offset_of!(Registers, pointer) == 8 && offset_of!(Registers, depth) == 16);
-    assert!(offset_of!(Registers, reserved) == 4 && offset_of!(Registers, reserved2) == 74 && offset_of!(Registers, reserved4) == 76);
+    assert!(
+        offset_of!(Registers, reserved) == 4 && offset_of!(Registers, reserved2) == 74 && offset_of!(Registers, reserved4) == 76
+    );
     assert!(offset_of!(Registers, jumps) == 24 && offset_of!(Registers, cells) == 32 && offset_of!(Registers, outputs) == 40);
     assert!(offset_of!(Registers, publics) == 48 && offset_of!(Registers, secrets) == 56 && offset_of!(Registers, digests) == 64);
     assert!(offset_of!(Registers, halted) == 72 && offset_of!(Registers, set) == 73 && offset_of!(Registers, words) == 80);
+    assert!(offset_of!(Registers, revision) == 208);
 };
 
 impl Registers {
-    /// From the words of a register slice; none where they are not 27, the clock is 2^32 or above or a mark is not 0 or 1, which
+    /// From the words of a register slice; none where they are not 28, the clock is 2^32 or above or a mark is not 0 or 1, which
     /// [`step`](crate::exports::step) refuses with 1.
     pub fn from_words(words: &[u64]) -> Option<Registers> {
         let words: &[u64; register::ALL] = words.try_into().ok()?;
@@ -72,6 +77,7 @@ impl Registers {
             reserved2: 0,
             reserved4: 0,
             words: std::array::from_fn(|i| words[register::SPONGE + i]),
+            revision: words[register::REVISION],
         })
     }
 
@@ -84,7 +90,8 @@ impl Registers {
         words[register::DEPTH..register::HALTED].copy_from_slice(&sizes.map(|size| size as u64));
         words[register::HALTED] = self.halted.into();
         words[register::SPONGE_SET] = self.set.into();
-        words[register::SPONGE..].copy_from_slice(&self.words);
+        words[register::SPONGE..register::REVISION].copy_from_slice(&self.words);
+        words[register::REVISION] = self.revision;
         words
     }
 }

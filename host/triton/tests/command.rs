@@ -71,7 +71,8 @@ fn bad_texts_are_named() {
     let output = kixombu(&["make", "-"], b"digest 1 2 3 4 5; pop 9");
     ends(&output, 0, "kixombu: warning: -: line 1, `9`: pop does not take this argument; open refuses it with 4\n");
     let output = kixombu(&["run", "-"], &output.stdout);
-    ends(&output, 1, "kixombu: -: IllegalArgument (4): a slot's argument is none that its instruction takes\n");
+    let said = "a slot's argument is none that its instruction takes, or the log's revision is not 1 or 2";
+    ends(&output, 1, &format!("kixombu: -: IllegalArgument (4): {said}\n"));
     assert_eq!(text(&output.stdout), "end refused 4 0 0 0\n");
     ends(&kixombu(&["make", "-"], &[0xff]), 1, "kixombu: -: the text is not UTF-8\n");
 }
@@ -249,6 +250,11 @@ fn usage() {
     ends(&kixombu(&["run"], b""), 2, "kixombu: usage: kixombu run JOB\n");
     ends(&kixombu(&["make", "a", "b", "c"], b""), 2, "kixombu: usage: kixombu make TEXT [JOB]\n");
     assert_eq!(kixombu(&["show", "--help"], b"").stdout, output.stdout);
+    for revision in ["0", "3", "two"] {
+        let said = format!("kixombu: {revision}: a log's revision is 1 or 2; see kixombu --help\n");
+        ends(&kixombu(&["record", "a", "b", revision], b""), 2, &said);
+        ends(&kixombu(&["replay", "a", "b", "7", revision], b""), 2, &said);
+    }
     for clock in ["c", "-1", "18446744073709551616"] {
         let said = format!("kixombu: {clock}: a clock is a whole number below 2^64; see kixombu --help\n");
         ends(&kixombu(&["replay", "a", "b", clock], b""), 2, &said);

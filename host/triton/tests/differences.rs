@@ -1,6 +1,6 @@
 //! The smallest inputs of docs/DIFFERENCES.md, as the library answers them.
 use kixombu::exports::{self, answer, register, Code, Memory, STEP_BYTES};
-use kixombu::{records, Ending, Job, Opening, Record, Refusal, Sizes, Slot};
+use kixombu::{records, Ending, Job, Opening, Record, Refusal, Revision, Sizes, Slot};
 
 const SMALL: Sizes = Sizes { op_stack: 17, jump_stack: 1, ram: 2, output: 0 };
 
@@ -15,7 +15,7 @@ fn place_a() {
     assert_eq!(opened(&[], Sizes { op_stack: 15, ..SMALL }).unwrap_err(), Refusal::BadShape);
     assert_eq!(opened(&[(3, 6), (3, 6)], SMALL).unwrap_err(), Refusal::IllegalArgument);
     let (mut registers, mut answer, mut op_stack) = ([0; register::ALL], [0; answer::ALL], [0; 18]);
-    (registers[register::DEPTH], op_stack[17]) = (17, 1);
+    (registers[register::DEPTH], registers[register::REVISION], op_stack[17]) = (17, 1, 1);
     let code = Code { opcodes: &[], arguments: &[], public: &[], secret: &[], digests: &[] };
     let memory = Memory {
         op_stack: &mut op_stack,
@@ -58,4 +58,16 @@ fn the_order_of_cells() {
     let mut job = opened(&program, Sizes { op_stack: 20, ..SMALL }).unwrap();
     assert_eq!(job.run(6).ending, Ending::Spent);
     assert_eq!(job.ram().collect::<Vec<_>>(), [(3, 8), (5, 7)]);
+}
+
+/// A clock with every Tip5 and U32 record, which the Rust's calls lack.
+#[test]
+fn clocks_of_revision_2() {
+    let program = [(8, 0), (4, 0)].map(|(opcode, argument)| Slot { opcode, argument }).to_vec();
+    let opening = Opening { program, revision: Revision::Two, ..Opening::default() };
+    let mut job = Job::open(&opening, SMALL).unwrap();
+    job.step().unwrap();
+    let bytes = job.step().unwrap();
+    assert_eq!(bytes[..10], [24, 0, 7, 0, 1, 0, 0, 0, 4, 0]);
+    assert_eq!(bytes.len(), 26 + 25);
 }

@@ -13,19 +13,19 @@ fn lengths_that_do_not_fit() {
     let mut registers = [7; register::ALL];
     for length in [0, 5, answer::ALL + 1] {
         let mut answer = vec![9; length];
-        assert_eq!(exports::open(&mut registers, &mut answer, &[0; 5], 0, NO_CODE, memory(&mut [])), 1);
+        assert_eq!(exports::open(&mut registers, &mut answer, 1, &[0; 5], 0, NO_CODE, memory(&mut [])), 1);
         assert_eq!(exports::step(&mut registers, &mut answer, NO_CODE, memory(&mut []), &mut [0; STEP_BYTES]), 1);
         assert_eq!(exports::run(&mut registers, &mut answer, 1, NO_CODE, memory(&mut [])), 1);
         assert_eq!(exports::trace_execution(&mut registers, &mut answer, 1, NO_CODE, memory(&mut []), &mut []), 1);
         assert_eq!(exports::helper_variables(&registers, &mut answer, NO_CODE, memory(&mut []).view()), 1);
-        assert_eq!(exports::replay(&mut answer, &[], 0, 0, &mut [], &mut [], &mut []), 1);
+        assert_eq!(exports::replay(&mut answer, &[], 1, 0, 0, &mut [], &mut [], &mut []), 1);
         assert_eq!((registers, answer), ([7; register::ALL], vec![9; length]));
     }
     let mut answer = [9; answer::ALL];
     assert_eq!(exports::step(&mut [], &mut answer, NO_CODE, memory(&mut []), &mut []), 1);
     assert_eq!(answer, [exports::ending::REFUSED, 1, 0, 0, 0, 0, 0]);
     let mut answer = [9; replayed::ALL];
-    assert_eq!(exports::replay(&mut answer, &[], 0, 0, &mut [0], &mut [], &mut []), 1);
+    assert_eq!(exports::replay(&mut answer, &[], 1, 0, 0, &mut [0], &mut [], &mut []), 1);
     assert_eq!(answer, [1, 0, 0]);
 }
 
@@ -34,7 +34,7 @@ fn lengths_that_do_not_fit() {
 fn the_clock_has_an_end() {
     let code = Code { opcodes: &[8], arguments: &[0], ..NO_CODE };
     let mut words = [0; register::ALL];
-    (words[register::CLOCK], words[register::DEPTH]) = (u32::MAX.into(), 16);
+    (words[register::CLOCK], words[register::DEPTH], words[register::REVISION]) = (u32::MAX.into(), 16, 1);
     let (mut registers, mut record) = (words, Registers::from_words(&words).unwrap());
     let mut answers = [[0; answer::ALL]; 2];
     let mut op_stack = [0; 16];
@@ -57,7 +57,7 @@ fn written(address: u64, addresses: [u64; 5]) -> (u64, [u64; 5], [u64; 5]) {
     let code = Code { opcodes: &[11], arguments: &[1], ..NO_CODE };
     let (mut addresses, mut values) = (addresses, [30, 50, 90, u64::MAX - 1, u64::MAX - 2]);
     let mut registers = [0; register::ALL];
-    (registers[register::DEPTH], registers[register::CELLS]) = (17, 3);
+    (registers[register::DEPTH], registers[register::CELLS], registers[register::REVISION]) = (17, 3, 1);
     let mut op_stack = [0; 17];
     (op_stack[15], op_stack[16]) = (7, address);
     let memory = Memory { addresses: &mut addresses, values: &mut values, ..memory(&mut op_stack) };
@@ -79,4 +79,33 @@ fn unused_cells_stay() {
     for out_of_order in [[5, 3, 9, last, next], [3, 5, 5, last, next], [9, 5, 3, 10, 11]] {
         assert_eq!(written(1, out_of_order), (5, out_of_order, [30, 50, 90, last, next]));
     }
+}
+
+/// Another revision than 1 or 2 is 4 at each call that takes it, and a call buffer has 1,028 bytes in revision 2 alone.
+#[test]
+fn revisions_that_there_are_not() {
+    let code = Code { opcodes: &[8], arguments: &[0], ..NO_CODE };
+    for (revision, expected) in [(0, 4), (1, 0), (2, 0), (3, 4), (u64::MAX, 4)] {
+        let (mut registers, mut answer, mut op_stack) = ([0; register::ALL], [0; answer::ALL], [0; 16]);
+        assert_eq!(exports::open(&mut registers, &mut answer, revision, &[0; 5], 0, code, memory(&mut op_stack)), expected);
+        (registers[register::DEPTH], registers[register::REVISION]) = (16, revision);
+        let most = exports::step_bytes(revision);
+        assert_eq!(most, if revision == 2 { 1028 } else { 1024 });
+        let short = exports::step(&mut registers.clone(), &mut answer, code, memory(&mut op_stack), &mut vec![0; most - 1]);
+        let stepped = exports::step(&mut registers.clone(), &mut answer, code, memory(&mut op_stack), &mut vec![0; most]);
+        let mut record = Registers::from_words(&registers).unwrap();
+        let by_record = exports::step_registers(&mut record, &mut answer, code, memory(&mut op_stack), &mut vec![0; most]);
+        assert_eq!((short, stepped, by_record), (1, expected, expected), "{revision}");
+        assert_eq!(exports::helper_variables(&registers, &mut [0; 6], code, memory(&mut op_stack).view()), expected);
+        let mut log = vec![0; most];
+        let run = exports::run(&mut registers.clone(), &mut answer, 1, code, memory(&mut op_stack));
+        let traced = exports::trace_execution(&mut registers.clone(), &mut answer, 1, code, memory(&mut op_stack), &mut log);
+        assert_eq!((run, traced), (expected, expected), "{revision}");
+        assert_eq!(exports::replay(&mut [0; 3], &[], revision, 0, 0, &mut [], &mut [], &mut []), expected);
+    }
+}
+
+#[test]
+fn the_interface_is_the_one_that_is_needed() {
+    assert_eq!((exports::interface_version(), exports::check_interface()), (exports::INTERFACE, Ok(())));
 }

@@ -4,7 +4,7 @@ mod common;
 use common::open;
 use kixombu::listing::trace_in_pieces;
 use kixombu::text::make;
-use kixombu::{records, Ending, Job, JobFile, Opening, OutOfOrder, Record, Refusal, Sizes, Slot, LONGEST, P};
+use kixombu::{records, Ending, Job, JobFile, Opening, OutOfOrder, Record, Refusal, Revision, Sizes, Slot, LONGEST, P};
 use std::collections::BTreeMap;
 
 fn opening(text: &str) -> Opening {
@@ -36,7 +36,7 @@ fn open_asks_for_ascending_cells() {
     let opened = |ram: &[(u64, u64)]| {
         let opening = Opening { ram: ram.to_vec(), ..Opening::default() };
         let opened = Job::open(&opening, Sizes::RUNJOB);
-        let replayed = kixombu::replay(&[], 0, ram, 9, 0).map(|replayed| replayed.ram);
+        let replayed = kixombu::replay(&[], Revision::One, 0, ram, 9, 0).map(|replayed| replayed.ram);
         assert_eq!(replayed, opened.as_ref().map(|_| ram.to_vec()).map_err(|refusal| *refusal));
         (opened.err(), OutOfOrder::first(ram).map(|found| (found.place, found.address, found.before)))
     };
@@ -94,7 +94,7 @@ fn cells_ascend_by_address() {
     let mut short = Job::open(&opening, sizes(8)).unwrap();
     assert_eq!(short.run(u64::MAX).ending, Ending::Refused(Refusal::RamFull));
     assert_eq!(short.ram().collect::<Vec<_>>(), expected[2..7]);
-    let replayed = |cells| kixombu::replay(&log, u64::MAX, &opening.ram, cells, 100).map(|replayed| replayed.ram);
+    let replayed = |cells| kixombu::replay(&log, Revision::One, u64::MAX, &opening.ram, cells, 100).map(|replayed| replayed.ram);
     assert_eq!((replayed(9), replayed(8)), (Ok(expected.to_vec()), Err(Refusal::SliceFull)));
 }
 
@@ -234,7 +234,12 @@ const REPLAYED: &str = "digest 9 8 7 6 5; ram 10 99; ram 11 -1
 
 /// The log, and the job after each step, the opening first.
 fn recorded(text: &str) -> (Vec<u8>, Vec<Job>) {
-    let mut jobs = vec![open(text)];
+    recorded_in(Revision::One, text)
+}
+
+fn recorded_in(revision: Revision, text: &str) -> (Vec<u8>, Vec<Job>) {
+    let opening = Opening { revision, ..opening(text) };
+    let mut jobs = vec![Job::open(&opening, Sizes::RUNJOB).unwrap()];
     let mut log = vec![];
     loop {
         let mut job = jobs.last().unwrap().clone();
@@ -282,10 +287,14 @@ fn replay_refuses_an_altered_read() {
 /// Eleven records of RAM or of the stack for a clock, and stack records of both directions: 45, behind 43 and before 44.
 #[test]
 fn replay_refuses_what_no_step_records() {
+    Revision::ALL.into_iter().for_each(refuses_what_no_step_records);
+}
+
+fn refuses_what_no_step_records(revision: Revision) {
     let stack = |clock, pointer, write| Record::Stack { clock, pointer, write, value: 1 };
     let ram = |address, write, value| Record::Ram { clock: 3, address, value, write };
     let replay = |records: &[Record], cells, words| {
-        kixombu::replay(&kixombu::bytes_of(records), 4, &[], cells, words).map(|replayed| replayed.depth)
+        kixombu::replay(&kixombu::bytes_of(records), revision, 4, &[], cells, words).map(|replayed| replayed.depth)
     };
     let ten_reads = vec![ram(7, false, 0); 10];
     let behind_ten = |last: Record, cells| replay(&[&ten_reads[..], &[last]].concat(), cells, 0);
@@ -307,6 +316,55 @@ fn replay_refuses_what_no_step_records() {
     assert_eq!(replay(&[stack(0, 16, true), stack(1, 16, false), stack(1, 16, true)], 0, 1), Err(Refusal::NotOneStep));
     // what stands at the clock or behind is not counted
     assert_eq!(replay(&[stack(4, 16, true), stack(4, 16, false)], 0, 1), Ok(16));
+}
+
+/// Kinds 6 and 7 do not count, and their clock is not the counted one.
+#[test]
+fn clocks_of_revision_2_do_not_count() {
+    let clocked = |clock| {
+        let states = Box::new([[7; 16]; 6]);
+        let tip5 = Record::Tip5 { clock: Some(clock), opcode: 18, states };
+        [tip5, Record::U32 { clock: Some(clock), opcode: 4, left: 0, right: 2 }].map(|record| vec![record])
+    };
+    let reads = |clock, count| vec![Record::Ram { clock, address: 7, value: 0, write: false }; count];
+    let writes = |clock, from: u64, count| -> Vec<Record> {
+        (from..from + count).map(|pointer| Record::Stack { clock, pointer, write: true, value: 1 }).collect()
+    };
+    let replay = |parts: &[Vec<Record>], clock| {
+        let log = kixombu::bytes_of(&parts.concat());
+        kixombu::replay(&log, Revision::Two, clock, &[], 0, 30).map(|replayed| replayed.depth)
+    };
+    let all = |parts: &[Vec<Record>]| replay(parts, 9);
+    for clock in [0, 1] {
+        for (own, next) in clocked(clock).into_iter().zip(clocked(clock + 1)) {
+            assert_eq!(all(&[reads(clock, 10), next.clone(), reads(clock + 1, 1)]), Ok(16));
+            assert_eq!(all(&[reads(clock, 10), next.clone(), reads(clock + 1, 11)]), Err(Refusal::NotOneStep));
+            assert_eq!(all(&[writes(clock, 16, 10), next.clone(), writes(clock + 1, 26, 10)]), Ok(36));
+            assert_eq!(all(&[writes(clock, 16, 10), own.clone(), writes(clock, 26, 1)]), Err(Refusal::NotOneStep));
+            assert_eq!(all(&[reads(clock, 10), own.clone(), reads(clock, 1)]), Err(Refusal::NotOneStep));
+            assert_eq!(all(&[reads(clock, 10), next.clone(), reads(clock, 1)]), Err(Refusal::ClockFalls));
+            assert_eq!(all(&[next.clone(), own.clone()]), Err(Refusal::ClockFalls));
+            assert_eq!(replay(&[reads(clock, 10), next.clone(), reads(clock, 1)], u64::from(clock) + 1), Ok(16));
+        }
+    }
+}
+
+/// Ten RAM records, and at the next clock a Tip5 record before five of RAM: all steps of a job in either revision.
+#[test]
+fn replay_takes_a_full_clock_before_another() {
+    let text = "digest 1 2 3 4 5; sponge_init; push 90; sponge_absorb_mem; merkle_step_mem; halt";
+    for (revision, clock) in [(Revision::One, None), (Revision::Two, Some(3))] {
+        let (log, jobs) = recorded_in(revision, text);
+        assert!(jobs.last().unwrap().is_halted());
+        let all: Vec<Record> = records(&log).map(Result::unwrap).collect();
+        let place = all.iter().rposition(|record| matches!(record, Record::Tip5 { clock: now, .. } if *now == clock)).unwrap();
+        let is_ram_at = |record: &Record, at| matches!(record, Record::Ram { clock, .. } if *clock == at);
+        assert_eq!(all[..place].iter().filter(|record| is_ram_at(record, 2)).count(), 10);
+        assert_eq!(all[place..].iter().filter(|record| is_ram_at(record, 3)).count(), 5);
+        for (clock, job) in jobs.iter().enumerate() {
+            assert_eq!(jobs[0].replay(&log, clock as u64).unwrap().depth, job.op_stack().len() as u64, "{clock}");
+        }
+    }
 }
 
 /// The steps with the most records: ten of the stack either way, ten of RAM.
@@ -334,7 +392,7 @@ fn replay_takes_the_ten_records_of_a_step() {
 fn replay_refuses_by_number() {
     let write = |clock, pointer| Record::Stack { clock, pointer, write: true, value: 1 };
     let replay = |records: &[Record], ram: &[(u64, u64)], cells, words| {
-        kixombu::replay(&kixombu::bytes_of(records), u64::MAX, ram, cells, words).map(|replayed| replayed.depth)
+        kixombu::replay(&kixombu::bytes_of(records), Revision::One, u64::MAX, ram, cells, words).map(|replayed| replayed.depth)
     };
     assert_eq!(replay(&[write(0, 16), write(0, 17)], &[], 0, 2), Ok(18));
     assert_eq!(replay(&[write(0, 16), write(0, 17)], &[], 0, 1), Err(Refusal::SliceFull));
@@ -345,5 +403,5 @@ fn replay_refuses_by_number() {
     assert_eq!(replay(&[], &[(2, 2), (1, 2)], 2, 0), Err(Refusal::BadState));
     assert_eq!(replay(&[], &[(1, P)], 1, 0), Err(Refusal::NotAWord));
     assert_eq!(replay(&[], &[], LONGEST + 1, 0), Err(Refusal::BadShape));
-    assert_eq!(kixombu::replay(&[0], 0, &[], 0, 0), Err(Refusal::RecordBroken));
+    assert_eq!(kixombu::replay(&[0], Revision::One, 0, &[], 0, 0), Err(Refusal::RecordBroken));
 }

@@ -3,7 +3,7 @@ mod common;
 
 use common::{folder, names, read};
 use kixombu::text::make;
-use kixombu::{bytes_of, replay, Job, JobFile, Record, Sizes};
+use kixombu::{bytes_of, records, replay, Job, JobFile, Opening, Record, Revision, Sizes};
 use std::process::{Command, Stdio};
 
 #[test]
@@ -112,8 +112,52 @@ fn a_small_stack_suffices() {
     let write = |i: u64| Record::Ram { clock: i as u32, address: i * 0x9e37_79b9 % 0x7fff_ffff, value: i, write: true };
     let log = bytes_of(&(0..100_000).map(write).collect::<Vec<_>>());
     let small = std::thread::Builder::new().stack_size(SMALL_STACK);
-    let replayed = small.spawn(move || replay(&log, u64::MAX, &[], 100_000, 0)).unwrap().join().unwrap();
+    let replayed = small.spawn(move || replay(&log, Revision::One, u64::MAX, &[], 100_000, 0)).unwrap().join().unwrap();
     assert_eq!(replayed.unwrap().ram.len(), 100_000);
+}
+
+/// The log in revision 2 is the one in revision 1 with a clock in each Tip5 and U32 record, and both replay alike.
+#[test]
+fn revisions_differ_in_clocks_alone() {
+    for name in names().into_iter().filter(|name| name != "broken") {
+        let file = JobFile::read(&read(&name, "job")).unwrap();
+        let logs = Revision::ALL.map(|revision| recorded(&Opening { revision, ..file.opening.clone() }));
+        let [Some((one, old)), Some((two, new))] = logs else {
+            continue;
+        };
+        assert_eq!(state(&one), state(&two), "{name}");
+        let without = |log: &[u8]| records(log).map(|record| unclocked(record.unwrap())).collect::<Vec<_>>();
+        assert_eq!(without(&old), without(&new), "{name}");
+        let clocks: Vec<u32> = records(&new).filter_map(|record| clock(&record.unwrap())).collect();
+        assert!(clocks.is_sorted() && !records(&new).any(|record| record.unwrap().revision() == Some(Revision::One)), "{name}");
+        for clock in 0..one.clock() + 2 {
+            assert_eq!(one.replay(&old, clock), two.replay(&new, clock), "{name} to {clock}");
+        }
+    }
+}
+
+/// A job after at most 200 steps, and their log; none where it does not open.
+fn recorded(opening: &Opening) -> Option<(Job, Vec<u8>)> {
+    let mut job = Job::open(opening, Sizes::RUNJOB).ok()?;
+    let mut log = vec![0; 1 << 18];
+    let ran = job.trace_execution(200, &mut log);
+    log.truncate(ran.bytes);
+    Some((job, log))
+}
+
+fn unclocked(mut record: Record) -> Record {
+    if let Record::Tip5 { clock, .. } | Record::U32 { clock, .. } = &mut record {
+        *clock = None;
+    }
+    record
+}
+
+fn clock(record: &Record) -> Option<u32> {
+    match *record {
+        Record::Tip5 { clock, .. } | Record::U32 { clock, .. } => clock,
+        Record::Stack { clock, .. } | Record::Ram { clock, .. } => Some(clock),
+        _ => None,
+    }
 }
 
 type State = (u64, u64, Vec<u64>, Vec<(u64, u64)>, Vec<(u64, u64)>, Vec<u64>, Option<[u64; 16]>);

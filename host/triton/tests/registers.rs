@@ -17,7 +17,8 @@ fn a_record_holds_the_words() {
     assert_eq!(record.to_words(), words);
     assert_eq!((record.clock, record.pointer), (u32::MAX, words[register::POINTER]));
     assert_eq!((record.depth as u64, record.digests as u64), (words[register::DEPTH], words[register::DIGESTS]));
-    assert_eq!((record.halted, record.set, &record.words[..]), (true, false, &words[register::SPONGE..]));
+    assert_eq!((record.halted, record.set, &record.words[..]), (true, false, &words[register::SPONGE..register::REVISION]));
+    assert_eq!(record.revision, words[register::REVISION]);
 }
 
 #[test]
@@ -66,7 +67,7 @@ fn step_over_the_record_is_step_over_the_words() {
     let code = Code { opcodes: &opcodes, arguments: &arguments, public: &public, secret: &secret, digests: &digests };
     let (mut words, mut by_words) = ([0; register::ALL], Lent::new());
     let mut answer = [0; answer::ALL];
-    assert_eq!(exports::open(&mut words, &mut answer, &[1, 2, 3, 4, 5], 2, code, by_words.parts().0), 0);
+    assert_eq!(exports::open(&mut words, &mut answer, 1, &[1, 2, 3, 4, 5], 2, code, by_words.parts().0), 0);
     let (mut record, mut by_record) = (Registers::from_words(&words).unwrap(), by_words.clone());
     let mut numbers = vec![];
     for _ in 0..10 {
@@ -98,15 +99,16 @@ fn an_answer_of_another_length_is_refused() {
     }
 }
 
-/// All 208 bytes of the record are fields, the reserved ones too: nothing of the stack gets into it.
+/// All 216 bytes of the record are fields, the reserved ones too: nothing of the stack gets into it.
 #[test]
 fn every_byte_of_the_record_follows() {
-    // clock and the first reserved field; pointer to digests; the marks and the others; the sponge's words
-    assert_eq!(std::mem::size_of::<Registers>(), (4 + 4) + 8 * 8 + (1 + 1 + 2 + 4) + 16 * 8);
+    // clock and the first reserved field; pointer to digests; the marks and the others; the sponge's words; the revision
+    assert_eq!(std::mem::size_of::<Registers>(), (4 + 4) + 8 * 8 + (1 + 1 + 2 + 4) + 16 * 8 + 8);
     let code = Code { opcodes: &[8], arguments: &[0], public: &[], secret: &[], digests: &[] };
     for (length, depth, number) in [(answer::ALL - 1, 16, 1), (answer::ALL, 15, 5), (answer::ALL, 16, 0)] {
         let mut record = Registers::from_words(&[0; register::ALL]).unwrap();
-        (record.depth, record.reserved, record.reserved2, record.reserved4) = (depth, 0xaaaa_aaaa, 0xaaaa, 0x5555_5555);
+        (record.depth, record.revision) = (depth, 1);
+        (record.reserved, record.reserved2, record.reserved4) = (0xaaaa_aaaa, 0xaaaa, 0x5555_5555);
         let mut expected = record;
         if number == 0 {
             (expected.clock, expected.pointer) = (1, 1);
@@ -146,6 +148,7 @@ fn no_two_fields_are_exchanged() {
         reserved2: 0x5555,
         reserved4: 0x3333_3333,
         words: std::array::from_fn(|i| 100 + i as u64),
+        revision: 2,
     };
     let mut record = before;
     let after = Registers { clock: 1001, pointer: 41, set: true, words: [0; 16], ..before };

@@ -69,6 +69,7 @@ pub fn start(
     let words = j.digests;
     let digest = j.digest;
     let m = open(
+        1,
         digest,
         j.cells,
         &opcodes[..slots],

@@ -42,7 +42,7 @@ same-length-5 c = search needs
 
 returns : tie.Need-returns
 returns c =
-    open-called _ _ _ _ _ _ (c .before .before .before .before .before .before .before .before .before .before .before .before .before .before .before .before .before .before .before .before .before .open-fits .ensures) (c .before .before .before .before .before .before .before .before .before .before .before .before .before .before .before .before .before .before .before .before .if1 .taken) (c .before .before .before .before .before .before .before .before .before .before .before .before .before .before .before .before .before .before .before .read-digest .ensures) (c .before .before .before .before .before .before .before .before .before .before .before .before .before .before .before .«open» .ensures) (c .before .before .before .before .before .before .before .before .open-report .ensures) (c .before .before .before .before .before .before .write-opened .ensures) (c .before .before .write-answer .ensures)
+    open-called _ _ _ _ _ _ _ (c .before .before .before .before .before .before .before .before .before .before .before .before .before .before .before .before .before .before .before .before .before .open-fits .ensures) (c .before .before .before .before .before .before .before .before .before .before .before .before .before .before .before .before .before .before .before .before .if1 .taken) (c .before .before .before .before .before .before .before .before .before .before .before .before .before .before .before .before .before .before .before .read-digest .ensures) (c .before .before .before .before .before .before .before .before .before .before .before .before .before .before .before .«open» .ensures) (c .before .before .before .before .before .before .before .before .open-report .ensures) (c .before .before .before .before .before .before .write-opened .ensures) (c .before .before .write-answer .ensures)
 
 same-length-6 : tie.Need-same-length-6
 same-length-6 c = search needs
@@ -51,7 +51,7 @@ same-length-7 : tie.Need-same-length-7
 same-length-7 c = search needs
 
 returns-2 : tie.Need-returns-2
-returns-2 c = open-misfits _ _ _ _ _ _ (c .before .before .before .before .before .open-fits .ensures) (c .before .before .before .before .if1 .left) (c .before .before .turn-down .ensures)
+returns-2 c = open-misfits _ _ _ _ _ _ _ (c .before .before .before .before .before .open-fits .ensures) (c .before .before .before .before .if1 .left) (c .before .before .turn-down .ensures)
 
 pub open-call-spec : {M : Type 1} → statement M
 open-call-spec =

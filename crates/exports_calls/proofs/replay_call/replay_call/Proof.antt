@@ -5,7 +5,7 @@ use Rattle.exports_calls.proofs.replay_call.replay_call.Statement.{stat
 use Rattle.exports_calls.proofs.replay_call.replay_call.Tie as tie
 
 returns : tie.Need-returns
-returns c = replay-misfits _ _ _ _ _ (c .if1 .taken)
+returns c = replay-misfits _ _ _ _ _ _ (c .if1 .taken)
 
 replay-requires : tie.Need-replay-requires
 replay-requires c κs = search needs
@@ -26,7 +26,7 @@ same-length-4 : tie.Need-same-length-4
 same-length-4 c = search needs
 
 returns-2 : tie.Need-returns-2
-returns-2 c = replay-called _ _ _ _ _ _ _ _ _ _ (c .before .before .before .before .before .before .before .before .before .before .before .before .before .before .if1 .left) (c .before .before .before .before .before .before .before .before .before .before .replay .ensures) (c .before .before .write-rebuilt .ensures)
+returns-2 c = replay-called _ _ _ _ _ _ _ _ _ _ _ (c .before .before .before .before .before .before .before .before .before .before .before .before .before .before .if1 .left) (c .before .before .before .before .before .before .before .before .before .before .replay .ensures) (c .before .before .write-rebuilt .ensures)
 
 pub replay-call-spec : {M : Type 1} → statement M
 replay-call-spec =

@@ -57,9 +57,15 @@ shared-slice-read-t37 c = search needs
 shared-slice-read-t40 : tie.Need-shared-slice-read-t40
 shared-slice-read-t40 c = search needs
 
+shared-slice-read-t42 : tie.Need-shared-slice-read-t42
+shared-slice-read-t42 c = search needs
+
 returns : tie.Need-returns
 unfolding stateOf
-returns c = rw (read-words (now (c .before .before .before .before .before .before .before .before .before .before .before .before .before .before .before .before .args .registers)) (c .before .before .before .before .before .before .before .before .before .before .before .before .copy .last .0) (c .before .before .before .before .before .before .before .before .before .before .before .before .before .before .before .before .pre .long) (c .before .before .before .before .before .before .before .before .before .before .before .before .copy .ensures))
+returns c =
+    let k = c .before .before .before .before .before .before .before .before .before .before .before .before .before in
+    let s = k .before .before .before .before in
+    rw (read-words (now (s .args .registers)) (k .copy .last .0) (s .pre .long) (k .copy .ensures))
 
 pub read-registers-spec : {M : Type 1} → statement M
 read-registers-spec =
@@ -82,4 +88,5 @@ read-registers-spec =
     shared-slice-read-t34
     shared-slice-read-t37
     shared-slice-read-t40
+    shared-slice-read-t42
     returns)

@@ -16,19 +16,19 @@ shared-slice-read-result c = search needs
 
 returns : tie.Need-returns
 unfolding readableOf
-returns c = rw (eq-eqb _ 27 (c .before .before .before .before .before .if1 .taken), lt-ltb _ 4294967296 (c .before .before .before .if2 .taken), lt-ltb _ 2 (c .before .if3 .taken))
+returns c = rw (eq-eqb _ 28 (c .before .before .before .before .before .if1 .taken), lt-ltb _ 4294967296 (c .before .before .before .if2 .taken), lt-ltb _ 2 (c .before .if3 .taken))
 
 returns-2 : tie.Need-returns-2
 unfolding readableOf
-returns-2 c = rw (eq-eqb _ 27 (c .before .before .before .before .if1 .taken), lt-ltb _ 4294967296 (c .before .before .if2 .taken), le-ltb _ 2 (c .if3 .left))
+returns-2 c = rw (eq-eqb _ 28 (c .before .before .before .before .if1 .taken), lt-ltb _ 4294967296 (c .before .before .if2 .taken), le-ltb _ 2 (c .if3 .left))
 
 returns-3 : tie.Need-returns-3
 unfolding readableOf
-returns-3 c = rw (eq-eqb _ 27 (c .before .before .if1 .taken), le-ltb _ 4294967296 (c .if2 .left))
+returns-3 c = rw (eq-eqb _ 28 (c .before .before .if1 .taken), le-ltb _ 4294967296 (c .if2 .left))
 
 returns-4 : tie.Need-returns-4
 unfolding readableOf
-returns-4 c = rw (ne-eqb _ 27 (c .if1 .left))
+returns-4 c = rw (ne-eqb _ 28 (c .if1 .left))
 
 pub readable-spec : {M : Type 1} → statement M
 readable-spec =

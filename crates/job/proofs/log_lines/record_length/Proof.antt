@@ -10,7 +10,7 @@ sub-if1 : tie.Need-sub-if1
 sub-if1 c = search needs
 
 returns : tie.Need-returns
-returns c = let a = c .before .before .args in size-short lengthOf (now (a .log)) (a .at) (c .if1 .taken)
+returns c = let a = c .before .before .args in size-short (lengthOf 1) (now (a .log)) (a .at) (c .if1 .taken)
 
 kind-at-requires : tie.Need-kind-at-requires
 kind-at-requires c κs = search needs
@@ -25,7 +25,7 @@ returns-2 : tie.Need-returns-2
 returns-2 c =
     let k = c .before .before in
     let a = k .before .before .before .args in
-    size-is lengthOf (now (a .log)) (a .at) _ _ _ (k .before .if1 .left) (k .kind-at .ensures) (c .before .length-of .ensures .0) (c .whole-at .ensures)
+    size-is (lengthOf 1) (now (a .log)) (a .at) _ _ _ (k .before .if1 .left) (k .kind-at .ensures) (c .before .length-of .ensures .0) (c .whole-at .ensures)
 
 pub record-length-spec : {M : Type 1} → statement M
 record-length-spec =

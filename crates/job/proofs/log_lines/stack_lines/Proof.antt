@@ -12,7 +12,7 @@ use Rattle.job.proofs.log_lines.stack_lines.Statement.{statement}
 use Rattle.job.proofs.log_lines.stack_lines.Tie as tie
 
 abbrev Inv-loop : tie.InvT-loop
-Inv-loop log out₀ to at₀ next₀ n₀ out at next n = (at ≤ length log) × (n ≡ sizeBy lengthOf (drop at log)) × (length out ≡ length out₀) × Lines log out₀ out to at next
+Inv-loop log out₀ to at₀ next₀ n₀ out at next n = (at ≤ length log) × (n ≡ sizeBy (lengthOf 1) (drop at log)) × (length out ≡ length out₀) × Lines log out₀ out to at next
 
 abbrev μ-loop : tie.MeasureT-loop
 μ-loop log out₀ to at₀ next₀ n₀ out at next n = length log - at

@@ -4,20 +4,20 @@ use mathlib.Core.Path.{_≡_, refl}
 use Prim.Native.Nat.{_*_, _-_, _≤_}
 use native.Mathlib.Omega.{arith}
 use lib.ListN.{length}
-use Rattle.machine_log.specs.Logged.{Wrote, accesses}
-use Rattle.machine_log.proofs.Logged.{wrote-none, wrote-more, accesses-more}
+use Rattle.machine_log.specs.Logged.{WroteAny, accesses}
+use Rattle.machine_log.proofs.Logged.{any-none, any-more, accesses-more}
 use Rattle.machine_log.proofs.calls.log_accesses.Statement.{statement}
 use Rattle.machine_log.proofs.calls.log_accesses.Tie as tie
 
 abbrev Inv-loop : tie.InvT-loop
-Inv-loop b₀ at clock from n dir addresses values next₀ i₀ b next i = (i ≤ n) × (length b ≡ length b₀) × Wrote b₀ b at (accesses clock addresses values dir from i) (25 * i) next
+Inv-loop b₀ at clock from n dir addresses values next₀ i₀ b next i = (i ≤ n) × (length b ≡ length b₀) × WroteAny b₀ b at (accesses clock addresses values dir from i) (25 * i) next
 
 abbrev μ-loop : tie.MeasureT-loop
 μ-loop b₀ at clock from n dir addresses values next₀ i₀ b next i = n - i
 
 loop-holds : tie.Need-loop-holds Inv-loop μ-loop
 unfolding accesses
-loop-holds c = (omega arith, refl, wrote-none _ _ _ _ refl refl)
+loop-holds c = (omega arith, refl, any-none _ _ _ _ refl refl)
 
 add-log-ram : tie.Need-add-log-ram Inv-loop μ-loop
 add-log-ram c = search needs
@@ -49,7 +49,7 @@ loop-less c = search needs
 loop-again : tie.Need-loop-again Inv-loop μ-loop
 loop-again c =
     let l = c .before .before .before .before .before .loop in
-    (omega arith, omega arith, wrote-more (omega arith) (l .inv .2) (c .before .before .log-ram .ensures) (accesses-more _ _ _ _ _ (l .i)) (omega arith))
+    (omega arith, omega arith, any-more (omega arith) (l .inv .2) (c .before .before .log-ram .ensures) (accesses-more _ _ _ _ _ (l .i)) (omega arith))
 
 same-length : tie.Need-same-length Inv-loop μ-loop
 same-length c = search needs

@@ -24,7 +24,7 @@ returns c =
     let k2 = k3 .before .before .before .before in
     let k1 = k2 .before .before .before .before in
     let s = k1 .before .before .before .before .before .before .before in
-    wrote-more (omega arith) (wrote-more (omega arith) (k1 .log-u32s .ensures) (k2 .log-accesses .ensures) refl refl) (k3 .log-accesses2 .ensures) (calls-are (s .args .clock) (s .args .effect)) refl
+    wrote-more (omega arith) (wrote-more (omega arith) (k1 .log-u32s .ensures) (k2 .log-accesses .ensures .any _) refl refl) (k3 .log-accesses2 .ensures .any _) (calls-are (s .args .revision) (s .args .clock) (s .args .effect)) refl
 
 pub log-calls-spec : {M : Type 1} → statement M
 log-calls-spec =

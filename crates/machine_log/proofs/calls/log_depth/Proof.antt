@@ -1,7 +1,7 @@
 -- `machine_log::calls::log_depth` meets its contract. Assumes nothing.
 use borrow.Author.Needs.{needs}
 use native.Mathlib.Omega.{arith}
-use Rattle.machine_log.proofs.Logged.{wrote-more, stack-are}
+use Rattle.machine_log.proofs.Logged.{any-more, stack-are}
 use Rattle.machine_log.proofs.calls.log_depth.Statement.{statement}
 use Rattle.machine_log.proofs.calls.log_depth.Tie as tie
 
@@ -25,7 +25,7 @@ returns c =
     let k2 = c .before .before in
     let k1 = k2 .before .before .before .before in
     let u = k1 .before .before in
-    wrote-more (omega arith) (k1 .log-growing .ensures) (k2 .log-shrinking .ensures) (stack-are _ _ _ _ _ _ (u .before .over .ensures) (u .over2 .ensures)) (omega (arith, u .before .over .ensures, u .over2 .ensures))
+    any-more (omega arith) (k1 .log-growing .ensures) (k2 .log-shrinking .ensures) (stack-are _ _ _ _ _ _ (u .before .over .ensures) (u .over2 .ensures)) (omega (arith, u .before .over .ensures, u .over2 .ensures))
 
 pub log-depth-spec : {M : Type 1} → statement M
 log-depth-spec =

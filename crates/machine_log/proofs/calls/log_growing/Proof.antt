@@ -4,21 +4,21 @@ use mathlib.Core.Path.{_≡_, refl}
 use Prim.Native.Nat.{_*_, _-_, _≤_}
 use native.Mathlib.Omega.{arith}
 use lib.ListN.{length}
-use Rattle.machine_log.specs.Logged.{Wrote}
+use Rattle.machine_log.specs.Logged.{WroteAny}
 use Rattle.machine.specs.Records.{growing}
-use Rattle.machine_log.proofs.Logged.{wrote-none, wrote-more, growing-more}
+use Rattle.machine_log.proofs.Logged.{any-none, any-more, growing-more}
 use Rattle.machine_log.proofs.calls.log_growing.Statement.{statement}
 use Rattle.machine_log.proofs.calls.log_growing.Tie as tie
 
 abbrev Inv-loop : tie.InvT-loop
-Inv-loop b₀ at clock stack q n next₀ i₀ b next i = (i ≤ n) × (length b ≡ length b₀) × Wrote b₀ b at (growing clock stack q i) (25 * i) next
+Inv-loop b₀ at clock stack q n next₀ i₀ b next i = (i ≤ n) × (length b ≡ length b₀) × WroteAny b₀ b at (growing clock stack q i) (25 * i) next
 
 abbrev μ-loop : tie.MeasureT-loop
 μ-loop b₀ at clock stack q n next₀ i₀ b next i = n - i
 
 loop-holds : tie.Need-loop-holds Inv-loop μ-loop
 unfolding growing
-loop-holds c = (omega arith, refl, wrote-none _ _ _ _ refl refl)
+loop-holds c = (omega arith, refl, any-none _ _ _ _ refl refl)
 
 add-log-stack : tie.Need-add-log-stack Inv-loop μ-loop
 add-log-stack c = search needs
@@ -47,7 +47,7 @@ loop-less c = search needs
 loop-again : tie.Need-loop-again Inv-loop μ-loop
 loop-again c =
     let l = c .before .before .before .before .before .before .loop in
-    (omega arith, omega arith, wrote-more (omega arith) (l .inv .2) (c .before .before .log-stack .ensures) (growing-more _ _ _ (l .i)) (omega arith))
+    (omega arith, omega arith, any-more (omega arith) (l .inv .2) (c .before .before .log-stack .ensures) (growing-more _ _ _ (l .i)) (omega arith))
 
 same-length : tie.Need-same-length Inv-loop μ-loop
 same-length c = search needs

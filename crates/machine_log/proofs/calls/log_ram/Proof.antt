@@ -2,7 +2,7 @@
 use borrow.Author.Needs.{needs}
 use denote.Ref.{now}
 use Rattle.machine.proofs.Records.{ram-length}
-use Rattle.machine_log.proofs.Logged.{record-back}
+use Rattle.machine_log.proofs.Logged.{any-back}
 use Rattle.machine_log.proofs.calls.log_ram.Statement.{statement}
 use Rattle.machine_log.proofs.calls.log_ram.Tie as tie
 
@@ -27,7 +27,7 @@ same-length c = search needs
 returns : tie.Need-returns
 returns c =
     let a = c .before .before .before .before .before .args in
-    record-back (now (a .b)) _ _ (a .at) _ (search needs) (ram-length _ _ _ _) (c .before .before .ram-record .ensures)
+    any-back (now (a .b)) _ _ (a .at) _ (search needs) (λ v. ram-length v _ _ _ _) (c .before .before .ram-record .ensures)
 
 pub log-ram-spec : {M : Type 1} → statement M
 log-ram-spec =

@@ -1,7 +1,7 @@
 -- `machine_log::calls::log_reset` meets its contract. Assumes nothing.
 use borrow.Author.Needs.{needs}
 use denote.Ref.{now}
-use Rattle.machine_log.proofs.Logged.{record-back, reset-length}
+use Rattle.machine_log.proofs.Logged.{any-back, reset-length}
 use Rattle.machine_log.proofs.calls.log_reset.Statement.{statement}
 use Rattle.machine_log.proofs.calls.log_reset.Tie as tie
 
@@ -26,7 +26,7 @@ same-length c = search needs
 returns : tie.Need-returns
 returns c =
     let a = c .before .before .before .before .before .args in
-    record-back (now (a .b)) _ _ (a .at) _ (search needs) reset-length (c .before .before .reset-record .ensures)
+    any-back (now (a .b)) _ _ (a .at) _ (search needs) reset-length (c .before .before .reset-record .ensures)
 
 pub log-reset-spec : {M : Type 1} → statement M
 log-reset-spec =

@@ -27,7 +27,8 @@ returns : tie.Need-returns
 returns c =
     let k = c .before .before .before .before .before .before in
     let a = k .args in
-    record-back (now (a .b)) _ _ (a .at) _ (search needs) (tip5-length _ _ (k .pre .1)) (c .before .before .tip5-record .ensures)
+    let e = c .before .before .tip5-record .ensures in
+    record-back _ (now (a .b)) _ _ (a .at) _ _ (search needs) (tip5-length _ _ _ _ (k .pre .1)) (e .1) (e .0)
 
 pub log-tip5-spec : {M : Type 1} → statement M
 log-tip5-spec =

@@ -26,7 +26,8 @@ same-length c = search needs
 returns : tie.Need-returns
 returns c =
     let a = c .before .before .before .before .before .args in
-    record-back (now (a .b)) _ _ (a .at) _ (search needs) (u32-length _) (c .before .before .u32-record .ensures)
+    let e = c .before .before .u32-record .ensures in
+    record-back _ (now (a .b)) _ _ (a .at) _ _ (search needs) (u32-length _ _ _) (e .1) (e .0)
 
 pub log-u32-spec : {M : Type 1} → statement M
 log-u32-spec =

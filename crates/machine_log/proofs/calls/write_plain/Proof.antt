@@ -19,7 +19,7 @@ returns : tie.Need-returns
 returns c =
     let k2 = c .before .before in
     let k1 = k2 .before .before .before .before in
-    wrote-more (omega arith) (k1 .log-calls .ensures) (k2 .log-depth .ensures) refl refl
+    wrote-more (omega arith) (k1 .log-calls .ensures) (k2 .log-depth .ensures .any _) refl refl
 
 pub write-plain-spec : {M : Type 1} → statement M
 write-plain-spec = tie.close (tie.spec log-calls-requires log-depth-requires same-length returns)

@@ -25,7 +25,7 @@ returns c =
     let k2 = k3 .before .before .before .before in
     let k1 = k2 .before .before .before .before in
     let s = k1 .before .before .before .before .before in
-    wrote-more (omega arith) (wrote-more (omega arith) (k1 .log-calls .ensures) (k2 .log-tip5 .ensures) refl refl) (k3 .log-depth .ensures) (tip5-last (s .args .clock) _ _ (callsOf (s .args .effect)) _) (omega arith)
+    wrote-more (omega arith) (wrote-more (omega arith) (k1 .log-calls .ensures) (k2 .log-tip5 .ensures) refl refl) (k3 .log-depth .ensures .any _) (tip5-last (s .args .revision) (s .args .clock) _ _ (callsOf (s .args .effect)) _) (omega arith)
 
 pub write-read-hashed-spec : {M : Type 1} → statement M
 write-read-hashed-spec =

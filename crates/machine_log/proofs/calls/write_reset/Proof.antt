@@ -25,7 +25,7 @@ returns c =
     let k2 = k3 .before .before .before .before in
     let k1 = k2 .before .before .before .before in
     let s = k1 .before .before .before .before in
-    wrote-more (omega arith) (wrote-more (omega arith) (k1 .log-reset .ensures) (k2 .log-calls .ensures) refl refl) (k3 .log-depth .ensures) (reset-first (s .args .clock) (callsOf (s .args .effect)) _) refl
+    wrote-more (omega arith) (wrote-more (omega arith) (k1 .log-reset .ensures .any _) (k2 .log-calls .ensures) refl refl) (k3 .log-depth .ensures .any _) (reset-first (s .args .revision) (s .args .clock) (callsOf (s .args .effect)) _) refl
 
 pub write-reset-spec : {M : Type 1} → statement M
 write-reset-spec =

@@ -8,7 +8,7 @@ check-open-requires : tie.Need-check-open-requires
 check-open-requires c κs = search needs
 
 open-stack-requires : tie.Need-open-stack-requires
-open-stack-requires c κs = open-deep _ _ _ _ (c .before .before .check-open .ensures) (c .before .if1 .taken)
+open-stack-requires c κs = open-deep _ _ _ _ _ (c .before .before .check-open .ensures) (c .before .if1 .taken)
 
 wipe-requires : tie.Need-wipe-requires
 wipe-requires c κs = search needs
@@ -34,7 +34,7 @@ same-length-3 c = search needs
 returns : tie.Need-returns
 returns c =
     let k = c .before .before .before .before .before .before .before .before .before .before .before in
-    open-took _ _ _ _ (k .before .before .before .check-open .ensures) (k .before .before .if1 .taken) (c .registers .ensures)
+    open-took _ _ _ _ _ (k .before .before .before .check-open .ensures) (k .before .before .if1 .taken) (c .registers .ensures)
     (k .open-stack .ensures) (c .before .before .before .before .before .before .before .wipe .ensures) (c .before .before .before .wipe2 .ensures)
 
 same-length-4 : tie.Need-same-length-4
@@ -47,7 +47,7 @@ same-length-6 : tie.Need-same-length-6
 same-length-6 c = search needs
 
 returns-2 : tie.Need-returns-2
-returns-2 c = open-kept _ _ _ _ (c .before .before .check-open .ensures) (c .before .if1 .left) (c .registers2 .ensures)
+returns-2 c = open-kept _ _ _ _ _ (c .before .before .check-open .ensures) (c .before .if1 .left) (c .registers2 .ensures)
 
 pub open-spec : {M : Type 1} → statement M
 open-spec =

@@ -60,13 +60,16 @@ inputs-taken-requires c κs = search needs
 counts-requires : tie.Need-counts-requires
 counts-requires c κs = search needs
 
+unknown-revision-requires : tie.Need-unknown-revision-requires
+unknown-revision-requires c κs = search needs
+
 returns-4 : tie.Need-returns-4
 unfolding machineA machine2 code2 code34 machine5 cells5
 returns-4 c =
-    let w = c .before .before .before in
+    let w = c .before .before .before .before in
     let v = w .before .before in
     let u = v .before .before .before .before in
-    rw (c .counts .ensures, c .before .inputs-taken .ensures, c .before .before .unused-places .ensures)
+    rw (c .unknown-revision .ensures, c .before .counts .ensures, c .before .before .inputs-taken .ensures, c .before .before .before .unused-places .ensures)
     (first-then _ _ _ _ (first-both _ _ _ _ _ (u .before .first .ensures) (u .before .before .before .code-lengths .ensures) (u .before .before .memory-lengths .ensures)) (u .if1 .left)
     (first-then _ _ _ _ (first-both _ _ _ _ _ (v .before .first2 .ensures) (v .before .before .code-words .ensures) (v .before .before .before .memory-words .ensures)) (v .if2 .left)
     (first-then _ _ _ _ (w .before .slot-faults .ensures) (w .if3 .left) refl)))
@@ -88,4 +91,5 @@ check-machine-spec =
     unused-places-requires
     inputs-taken-requires
     counts-requires
+    unknown-revision-requires
     returns-4)

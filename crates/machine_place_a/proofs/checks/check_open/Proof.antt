@@ -1,8 +1,10 @@
 -- `machine_place_a::checks::check_open` meets its contract. Assumes nothing.
 use borrow.Author.Needs.{needs}
 use native.Mathlib.Omega.{arith}
+use mathlib.Core.Path.{ap, _∙_}
+use Rattle.choices.specs.Choice.{firstOf}
 use Rattle.machine.specs.Ram.{cells5}
-use Rattle.machine.specs.PlaceA.{code2, code34, openA}
+use Rattle.machine.specs.PlaceA.{code2, code34, revision4, openA}
 use Rattle.machine_place_a.proofs.ChecksLaws.{first-stop, first-then, first-both, slots-paired}
 use Rattle.machine_place_a.proofs.checks.check_open.Statement.{statement}
 use Rattle.machine_place_a.proofs.checks.check_open.Tie as tie
@@ -62,15 +64,18 @@ returns-3 c =
 used-cells-requires : tie.Need-used-cells-requires
 used-cells-requires c κs = search needs
 
+unknown-revision-requires : tie.Need-unknown-revision-requires
+unknown-revision-requires c κs = search needs
+
 returns-4 : tie.Need-returns-4
 unfolding openA code2 code34 cells5
 returns-4 c =
-    let w = c .before in
+    let w = c .before .before in
     let v = w .before .before in
     let u = v .before .before .before .before .before .before .before in
     first-then _ _ _ _ (first-both _ _ _ _ _ (u .before .first .ensures) (u .before .before .before .code-lengths .ensures) (u .before .before .memory-lengths .ensures)) (u .if1 .left)
     (first-then _ _ _ _ (first-both _ _ _ _ _ (v .before .first3 .ensures) (v .before .before .code-words .ensures) (first-both _ _ _ _ _ (v .before .before .before .first2 .ensures) (v .before .before .before .before .before .words-below .ensures) (v .before .before .before .before .cell-words .ensures))) (v .if2 .left)
-    (first-then _ _ _ _ (w .before .slot-faults .ensures) (w .if3 .left) (c .used-cells .ensures)))
+    (first-then _ _ _ _ (w .before .slot-faults .ensures) (w .if3 .left) (c .unknown-revision .ensures ∙ ap (firstOf (revision4 _)) (c .before .used-cells .ensures))))
 
 pub check-open-spec : {M : Type 1} → statement M
 check-open-spec =
@@ -90,4 +95,5 @@ check-open-spec =
     slot-faults-requires
     returns-3
     used-cells-requires
+    unknown-revision-requires
     returns-4)

@@ -11,9 +11,10 @@ use Rattle.machine_steps.proofs.steps.steps.Statement.{statement}
 use Rattle.machine_steps.proofs.steps.steps.Tie as tie
 
 abbrev Inv-loop : tie.InvT-loop
-Inv-loop recording budget opcodes arguments public secret digests op-stack₀ origins₀ destinations₀ addresses₀ values₀ output₀ b₀ now₀ count₀ at₀ op-stack origins destinations addresses values output b now count at =
+Inv-loop recording budget opcodes arguments public secret digests op-stack₀ origins₀ destinations₀ addresses₀ values₀ output₀ b₀ most now₀ count₀ at₀ op-stack origins destinations addresses values output b now count at =
     Going recording
     budget
+    most
     b₀
     (machine now₀ (code opcodes arguments public secret digests) (memory op-stack₀ origins₀ destinations₀ addresses₀ values₀ output₀))
     (machine now (code opcodes arguments public secret digests) (memory op-stack origins destinations addresses values output))
@@ -29,10 +30,13 @@ Inv-loop recording budget opcodes arguments public secret digests op-stack₀ or
     × (length b ≡ length b₀)
 
 abbrev μ-loop : tie.MeasureT-loop
-μ-loop recording budget opcodes arguments public secret digests op-stack₀ origins₀ destinations₀ addresses₀ values₀ output₀ b₀ now₀ count₀ at₀ op-stack origins destinations addresses values output b now count at = budget - count
+μ-loop recording budget opcodes arguments public secret digests op-stack₀ origins₀ destinations₀ addresses₀ values₀ output₀ b₀ most now₀ count₀ at₀ op-stack origins destinations addresses values output b now count at = budget - count
+
+most-bytes-requires : tie.Need-most-bytes-requires Inv-loop μ-loop
+most-bytes-requires c κs = search needs
 
 loop-holds : tie.Need-loop-holds Inv-loop μ-loop
-loop-holds c = (steps-start _ _ _ _ (c .before .before .before .before .before .before .before .before .before .before .before .before .pre .sound), refl, refl, refl, refl, refl, refl, refl)
+loop-holds c = (steps-start _ _ _ _ _ (c .most-bytes .ensures) (c .before .before .before .before .before .before .before .before .before .before .before .before .before .pre .sound), refl, refl, refl, refl, refl, refl, refl)
 
 sub-full : tie.Need-sub-full Inv-loop μ-loop
 sub-full c = steps-within (c .before .before .loop .inv .0)
@@ -81,7 +85,7 @@ add-now c =
     omega (arith, g .sound .clock)
 
 add-count : tie.Need-add-count Inv-loop μ-loop
-add-count c = omega (arith, c .before .before .before .before .before .before .before .before .before .before .before .before .before .before .before .before .before .before .loop-test .taken, c .before .before .before .before .before .before .before .before .before .before .before .before .before .before .before .before .before .before .before .before .before .before .before .before .before .before .before .before .before .before .before .before .good)
+add-count c = omega (arith, c .before .before .before .before .before .before .before .before .before .before .before .before .before .before .before .before .before .before .loop-test .taken, c .before .before .before .before .before .before .before .before .before .before .before .before .before .before .before .before .before .before .before .before .before .before .before .before .before .before .before .before .before .before .before .before .before .good)
 
 loop-less : tie.Need-loop-less Inv-loop μ-loop
 loop-less c = omega (arith, c .before .before .before .before .before .before .before .before .before .before .before .before .before .before .before .before .before .before .loop-test .taken)
@@ -103,13 +107,13 @@ enum-told : tie.Need-enum-told Inv-loop μ-loop
 enum-told c = search needs
 
 add-count-2 : tie.Need-add-count-2 Inv-loop μ-loop
-add-count-2 c = omega (arith, c .before .before .before .before .before .before .before .before .before .before .before .before .before .before .before .before .before .before .before .before .before .before .before .before .before .before .before .before .before .before .before .before .before .before .before .before .before .loop-test .taken, c .before .before .before .before .before .before .before .before .before .before .before .before .before .before .before .before .before .before .before .before .before .before .before .before .before .before .before .before .before .before .before .before .before .before .before .before .before .before .before .before .before .before .before .before .before .before .before .before .before .before .before .good)
+add-count-2 c = omega (arith, c .before .before .before .before .before .before .before .before .before .before .before .before .before .before .before .before .before .before .before .before .before .before .before .before .before .before .before .before .before .before .before .before .before .before .before .before .before .loop-test .taken, c .before .before .before .before .before .before .before .before .before .before .before .before .before .before .before .before .before .before .before .before .before .before .before .before .before .before .before .before .before .before .before .before .before .before .before .before .before .before .before .before .before .before .before .before .before .before .before .before .before .before .before .before .good)
 
 add-at : tie.Need-add-at Inv-loop μ-loop
 add-at c =
     let q = c .before .before .before .before .before .before .before .before .before .before .before .before .before .before .before .before .before .before .before .before .before .before .before .before .before .before .before .before .before in
     let g = steps-go (steps-kept (q .quick .ensures .kept (c .before .before .before .before .before .before .before .before .before .before .before .before .before .before .before .before .before .before .before .before .before .before .before .before .before .before .if3 .left)) (q .before .before .before .before .before .before .before .before .before .before .loop .inv .0)) (q .before .before .before .before .before .before .before .before .before .loop-test .taken) (q .before .before .before .before .before .before .before .before .if1 .left) (sym (q .before .before .before .before .before .before .before .full .ensures) ∙ q .before .before .before .before .before .before .if2 .left) (c .before .enum-told .given .1) (c .before .before .before .before .before .before .before .before .before .before .before .before .before .before .before .before .before .before .advance-at .ensures) in
-    omega (arith, g .place, g .fits, c .before .before .before .before .before .before .before .before .before .before .before .before .before .before .before .before .before .before .before .before .before .before .before .before .before .before .before .before .before .before .before .before .before .before .before .before .before .before .before .before .before .before .before .before .before .before .before .before .before .before .before .before .pre .few)
+    omega (arith, g .place, g .fits, c .before .before .before .before .before .before .before .before .before .before .before .before .before .before .before .before .before .before .before .before .before .before .before .before .before .before .before .before .before .before .before .before .before .before .before .before .before .before .before .before .before .before .before .before .before .before .before .before .before .before .before .before .before .pre .few)
 
 loop-less-2 : tie.Need-loop-less-2 Inv-loop μ-loop
 loop-less-2 c = omega (arith, c .before .before .before .before .before .before .before .before .before .before .before .before .before .before .before .before .before .before .before .before .before .before .before .before .before .before .before .before .before .before .before .before .before .before .before .before .before .before .loop-test .taken)
@@ -189,6 +193,7 @@ steps-spec =
     (tie.spec
     Inv-loop
     μ-loop
+    most-bytes-requires
     loop-holds
     sub-full
     full-requires

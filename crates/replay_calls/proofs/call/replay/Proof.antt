@@ -22,14 +22,14 @@ same-length-3 c = search needs
 
 returns : tie.Need-returns
 returns c =
-    call-refused _ _ _ _ _ _ (c .before .before .check-replay .ensures) (c .before .if1 .taken) (c .refused .ensures)
+    call-refused _ _ _ _ _ _ _ (c .before .before .check-replay .ensures) (c .before .if1 .taken) (c .refused .ensures)
 
 scan-log-requires : tie.Need-scan-log-requires
 scan-log-requires c κs = search needs
 
 by-table-requires : tie.Need-by-table-requires
 by-table-requires c κs =
-    (scans (c .before .before .before .before .scan-log .ensures) (opens _ _ _ _ (c .before .before .before .before .before .before .before .check-replay .ensures) (c .before .before .before .before .before .before .if1 .left)), scan-quiet (c .before .before .before .before .scan-log .ensures))
+    (scans (c .before .before .before .before .scan-log .ensures) (opens _ _ _ _ _ (c .before .before .before .before .before .before .before .check-replay .ensures) (c .before .before .before .before .before .before .if1 .left)), scan-quiet (c .before .before .before .before .scan-log .ensures))
 
 clear-requires : tie.Need-clear-requires
 clear-requires c κs = search needs
@@ -49,7 +49,7 @@ same-length-6 c = search needs
 returns-2 : tie.Need-returns-2
 returns-2 c =
     let t = c .before .before .before .before .before .before .before .before .before .before .before .by-table .ensures in
-    call-wrong _ _ _ _ _ _ _ _ (c .before .before .before .before .before .before .before .before .before .before .before .before .before .before .before .before .before .before .before .check-replay .ensures) (c .before .before .before .before .before .before .before .before .before .before .before .before .before .before .before .before .before .before .if1 .left) (c .before .before .before .before .before .before .before .before .before .before .before .before .before .before .before .before .scan-log .ensures) (t .decides) (c .before .before .before .before .before .if2 .taken) _ (t .kept (c .before .before .before .before .before .if2 .taken)) _ _ (c .before .before .before .before .before .before .before .before .before .before .before .before .before .before .before .words .given) (c .before .before .before .clear .ensures) (c .refused2 .ensures)
+    call-wrong _ _ _ _ _ _ _ _ _ (c .before .before .before .before .before .before .before .before .before .before .before .before .before .before .before .before .before .before .before .check-replay .ensures) (c .before .before .before .before .before .before .before .before .before .before .before .before .before .before .before .before .before .before .if1 .left) (c .before .before .before .before .before .before .before .before .before .before .before .before .before .before .before .before .scan-log .ensures) (t .decides) (c .before .before .before .before .before .if2 .taken) _ (t .kept (c .before .before .before .before .before .if2 .taken)) _ _ (c .before .before .before .before .before .before .before .before .before .before .before .before .before .before .before .words .given) (c .before .before .before .clear .ensures) (c .refused2 .ensures)
 
 same-length-7 : tie.Need-same-length-7
 same-length-7 c = search needs
@@ -63,7 +63,7 @@ same-length-9 c = search needs
 returns-3 : tie.Need-returns-3
 returns-3 c =
     let t = c .before .before .before .before .before .before .by-table .ensures in
-    call-right _ _ _ _ _ _ _ _ (c .before .before .before .before .before .before .before .before .before .before .before .before .before .before .check-replay .ensures) (c .before .before .before .before .before .before .before .before .before .before .before .before .before .if1 .left) (c .before .before .before .before .before .before .before .before .before .before .before .scan-log .ensures) (t .decides) (c .if2 .left) _ _ _ (t .written (c .if2 .left))
+    call-right _ _ _ _ _ _ _ _ _ (c .before .before .before .before .before .before .before .before .before .before .before .before .before .before .check-replay .ensures) (c .before .before .before .before .before .before .before .before .before .before .before .before .before .if1 .left) (c .before .before .before .before .before .before .before .before .before .before .before .scan-log .ensures) (t .decides) (c .if2 .left) _ _ _ (t .written (c .if2 .left))
 
 pub replay-spec : {M : Type 1} → statement M
 replay-spec =

@@ -4,21 +4,22 @@ use native.Mathlib.Omega.{arith}
 use mathlib.Core.Path.{_≡_, refl}
 use lib.ListN.{length}
 use borrow.Author.Needs.{needs}
+use Rattle.replay_scan.specs.Walk.{logOf}
 use Rattle.machine.specs.Ram.{cells as cellsOf}
 use Rattle.replay_group.proofs.PassLaws.{Going, going-start, going-made, going-next, next, onward-end, onward-wrong}
 use Rattle.replay_group.proofs.group.pass_log.Statement.{statement}
 use Rattle.replay_group.proofs.group.pass_log.Tie as tie
 
 abbrev Inv-loop : tie.InvT-loop
-Inv-loop log to lo checking addresses values count keys₀ vals₀ lkeys₀ lvals₀ hi₀ n₀ m₀ at₀ keys vals lkeys lvals hi n m at =
-    Going log to checking lo hi (cellsOf count addresses values) at n keys vals m lkeys lvals
+Inv-loop log revision to lo checking addresses values count keys₀ vals₀ lkeys₀ lvals₀ hi₀ n₀ m₀ at₀ keys vals lkeys lvals hi n m at =
+    Going (logOf revision log) to checking lo hi (cellsOf count addresses values) at n keys vals m lkeys lvals
     × (length keys ≡ length keys₀)
     × (length vals ≡ length vals₀)
     × (length lkeys ≡ length lkeys₀)
     × (length lvals ≡ length lvals₀)
 
 abbrev μ-loop : tie.MeasureT-loop
-μ-loop log to lo checking addresses values count keys₀ vals₀ lkeys₀ lvals₀ hi₀ n₀ m₀ at₀ keys vals lkeys lvals hi n m at = to - at
+μ-loop log revision to lo checking addresses values count keys₀ vals₀ lkeys₀ lvals₀ hi₀ n₀ m₀ at₀ keys vals lkeys lvals hi n m at = to - at
 
 loop-holds : tie.Need-loop-holds Inv-loop μ-loop
 loop-holds c =

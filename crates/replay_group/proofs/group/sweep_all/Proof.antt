@@ -7,23 +7,23 @@ use mathlib.Core.List.{List}
 use Rattle.machine.specs.Words.{p}
 use Rattle.machine.specs.Ram.{cells as cellsOf}
 use Rattle.machine.specs.Records.{Record}
-use Rattle.replay_scan.specs.Walk.{Walk}
-use Rattle.replay_group.proofs.SweepLaws.{Grouping, grouping-none, grouping-fits, grouping-few, grouping-more, lent-again, sweep-walked, swept-all, swept-whole}
+use Rattle.replay_scan.specs.Walk.{logOf, Walk}
+use Rattle.replay_group.proofs.SweepLaws.{Grouping, grouping-none, grouping-fits, grouping-few, grouping-more, lent-again, sweep-walked, swept-all, swept-whole, walked-ends}
 use Rattle.replay_group.proofs.group.sweep_all.Statement.{statement}
 use Rattle.replay_group.proofs.group.sweep_all.Tie as tie
 
 abbrev Inv-loop : tie.InvT-loop
-Inv-loop log to addresses values count keys₀ vals₀ lkeys₀ lvals₀ end₀ cells₀ groups₀ n₀ lo₀ keys vals lkeys lvals end cells groups n lo =
+Inv-loop log revision to addresses values count keys₀ vals₀ lkeys₀ lvals₀ end₀ cells₀ groups₀ n₀ lo₀ keys vals lkeys lvals end cells groups n lo =
     (lo ≤ p)
     × (end ≤ to)
     × (length keys ≡ length keys₀)
     × (length vals ≡ length vals₀)
     × (length lkeys ≡ length lkeys₀)
     × (length lvals ≡ length lvals₀)
-    × ((rs : List Record) → Walk log 0 to rs → Grouping log to lo (cellsOf count addresses values) rs end cells (length keys₀ / 2) groups (cellsOf n keys vals) lkeys lvals)
+    × ((rs : List Record) → Walk (logOf revision log) 0 to rs → Grouping (logOf revision log) to lo (cellsOf count addresses values) rs end cells (length keys₀ / 2) groups (cellsOf n keys vals) lkeys lvals)
 
 abbrev μ-loop : tie.MeasureT-loop
-μ-loop log to addresses values count keys₀ vals₀ lkeys₀ lvals₀ end₀ cells₀ groups₀ n₀ lo₀ keys vals lkeys lvals end cells groups n lo = p - lo
+μ-loop log revision to addresses values count keys₀ vals₀ lkeys₀ lvals₀ end₀ cells₀ groups₀ n₀ lo₀ keys vals lkeys lvals end cells groups n lo = p - lo
 
 loop-holds : tie.Need-loop-holds Inv-loop μ-loop
 loop-holds c =
@@ -50,7 +50,7 @@ add-cells c =
     let l = c .before .before .before .before .before .before .before .before .before .before .before .before .before .before .before .before .loop .inv in
     let g = l .6 (r .0 .records) (r .0 .walk) in
     let d = c .before .before .before .before .before .before .before .before .before .before .group-from .ensures in
-    omega (arith, grouping-fits _ (r .0 .walk) g (d .above) (d .gathered (g .sweeping .done) (g .sweeping .walk)) (c .count-new .ensures .is _ _), r .0 .ends)
+    omega (arith, grouping-fits _ (r .0 .walk) g (d .above) (d .gathered (g .sweeping .done) (g .sweeping .walk)) (c .count-new .ensures .is _ _), walked-ends (r .0), c .before .before .before .before .before .before .before .before .before .before .before .before .before .before .before .before .before .before .before .before .before .before .before .before .fits)
 
 add-groups : tie.Need-add-groups Inv-loop μ-loop
 add-groups c =
@@ -58,7 +58,7 @@ add-groups c =
     let l = c .before .before .before .before .before .before .before .before .before .before .before .before .before .before .before .before .loop .inv in
     let g = l .6 (r .0 .records) (r .0 .walk) in
     let d = c .before .before .before .before .before .before .before .before .before .before .group-from .ensures in
-    omega (arith, grouping-few _ (r .0 .walk) g (d .above) (d .gathered (g .sweeping .done) (g .sweeping .walk)) (c .count-new .ensures .is _ _) (omega (arith, r .2 .two)) (c .before .before .before .before .before .before .before .before .before .before .before .before .before .before .before .loop-test .taken), r .0 .ends)
+    omega (arith, grouping-few _ (r .0 .walk) g (d .above) (d .gathered (g .sweeping .done) (g .sweeping .walk)) (c .count-new .ensures .is _ _) (omega (arith, r .2 .two)) (c .before .before .before .before .before .before .before .before .before .before .before .before .before .before .before .loop-test .taken), walked-ends (r .0), c .before .before .before .before .before .before .before .before .before .before .before .before .before .before .before .before .before .before .before .before .before .before .before .before .fits, c .before .before .before .before .before .before .before .before .before .before .before .before .before .before .before .before .before .before .before .before .before .before .before .before .good)
 
 loop-less : tie.Need-loop-less Inv-loop μ-loop
 loop-less c =

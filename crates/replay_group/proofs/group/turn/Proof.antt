@@ -1,5 +1,4 @@
 -- `replay_group::group::turn` meets its contract. Assumes nothing.
-use Prim.Native.Nat.{_-_}
 use native.Mathlib.Omega.{arith}
 use mathlib.Core.Path.{sym, _∙_}
 use borrow.Author.Needs.{needs}
@@ -14,14 +13,14 @@ returns c = not-ram _ _ _ _ _ _ _ _ (c .if1 .taken)
 ram-fields-requires : tie.Need-ram-fields-requires
 ram-fields-requires c κs =
     let k = c .before .before .before .before .before .before .before .before in
-    omega (arith, ram-long _ (c .if1 .left), k .pre .0)
+    omega (arith, ram-long (k .args .revision) _ (c .if1 .left), k .pre .0)
 
 within-requires : tie.Need-within-requires
 within-requires c κs = search needs
 
 returns-2 : tie.Need-returns-2
 returns-2 c =
-    ram-outside _ _ _ _ _ _ _ _ (c .before .before .before .if1 .left) (c .before .before .ram-fields .ensures) (sym (c .before .within .ensures) ∙ not-true _ (c .if2 .taken))
+    ram-outside _ _ _ _ _ _ _ _ _ (c .before .before .before .if1 .left) (c .before .before .ram-fields .ensures) (sym (c .before .within .ensures) ∙ not-true _ (c .if2 .taken))
 
 put-requires : tie.Need-put-requires
 put-requires c κs = search needs
@@ -38,12 +37,12 @@ same-length-3 c = search needs
 returns-3 : tie.Need-returns-3
 returns-3 c =
     let k = c .before .before .before .before .before .before .before .before .before .before .before .before in
-    ram-write _ _ _ _ _ _ _ _ (k .before .before .before .if1 .left) (k .before .before .ram-fields .ensures) (sym (k .before .within .ensures) ∙ not-false _ (k .if2 .left)) (c .before .before .before .before .before .before .before .before .before .before .if3 .taken) (c .before .before .before .before .before .before .put .ensures)
+    ram-write _ _ _ _ _ _ _ _ _ (k .before .before .before .if1 .left) (k .before .before .ram-fields .ensures) (sym (k .before .within .ensures) ∙ not-false _ (k .if2 .left)) (c .before .before .before .before .before .before .before .before .before .before .if3 .taken) (c .before .before .before .before .before .before .put .ensures)
 
 returns-4 : tie.Need-returns-4
 returns-4 c =
     let k = c .before .before .before in
-    ram-unchecked _ _ _ _ _ _ _ _ (k .before .before .before .if1 .left) (k .before .before .ram-fields .ensures) (c .before .if3 .left) (not-true _ (c .if4 .taken))
+    ram-unchecked _ _ _ _ _ _ _ _ _ (k .before .before .before .if1 .left) (k .before .before .ram-fields .ensures) (c .before .if3 .left) (not-true _ (c .if4 .taken))
 
 word-at-requires : tie.Need-word-at-requires
 word-at-requires c κs = search needs
@@ -60,7 +59,7 @@ same-length-6 c = search needs
 returns-5 : tie.Need-returns-5
 returns-5 c =
     let k = c .before .before .before .before .before .before .before .before .before in
-    ram-right _ _ _ _ _ _ _ _ (k .before .before .before .if1 .left) (k .before .before .ram-fields .ensures) (c .before .before .before .before .before .before .before .if3 .left) (c .if5 .taken ∙ c .before .before .word-at .ensures) (sym (k .before .within .ensures) ∙ not-false _ (k .if2 .left))
+    ram-right _ _ _ _ _ _ _ _ _ (k .before .before .before .if1 .left) (k .before .before .ram-fields .ensures) (c .before .before .before .before .before .before .before .if3 .left) (c .if5 .taken ∙ c .before .before .word-at .ensures) (sym (k .before .within .ensures) ∙ not-false _ (k .if2 .left))
 
 same-length-7 : tie.Need-same-length-7
 same-length-7 c = search needs
@@ -74,7 +73,7 @@ same-length-9 c = search needs
 returns-6 : tie.Need-returns-6
 returns-6 c =
     let k = c .before .before .before .before .before .before .before .before .before in
-    ram-wrong _ _ _ _ _ _ _ _ (k .before .before .before .if1 .left) (k .before .before .ram-fields .ensures) (c .before .before .before .before .before .before .before .if3 .left) (not-false _ (c .before .before .before .before .before .before .if4 .left)) (sym (k .before .within .ensures) ∙ not-false _ (k .if2 .left)) (λ e. c .if5 .left (e ∙ sym (c .before .before .word-at .ensures)))
+    ram-wrong _ _ _ _ _ _ _ _ _ (k .before .before .before .if1 .left) (k .before .before .ram-fields .ensures) (c .before .before .before .before .before .before .before .if3 .left) (not-false _ (c .before .before .before .before .before .before .if4 .left)) (sym (k .before .within .ensures) ∙ not-false _ (k .if2 .left)) (λ e. c .if5 .left (e ∙ sym (c .before .before .word-at .ensures)))
 
 pub turn-spec : {M : Type 1} → statement M
 turn-spec =

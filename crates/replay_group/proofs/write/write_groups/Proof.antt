@@ -7,14 +7,14 @@ use mathlib.Core.List.{List}
 use Rattle.machine.specs.Words.{p}
 use Rattle.machine.specs.Ram.{cells as cellsOf}
 use Rattle.machine.specs.Records.{Record}
-use Rattle.replay_scan.specs.Walk.{Walk}
+use Rattle.replay_scan.specs.Walk.{logOf, Walk}
 use Rattle.replay_group.proofs.SweepLaws.{lent-again}
 use Rattle.replay_group.proofs.WriteLaws.{Writing, writing-none, writing-few, writing-more, writing-fits, writing-room, writing-end, gathered-all}
 use Rattle.replay_group.proofs.write.write_groups.Statement.{statement}
 use Rattle.replay_group.proofs.write.write_groups.Tie as tie
 
 abbrev Inv-loop : tie.InvT-loop
-Inv-loop log to addresses₀ values₀ count keys₀ vals₀ lkeys₀ lvals₀ used₀ groups₀ lo₀ addresses values keys vals lkeys lvals used groups lo =
+Inv-loop log revision to addresses₀ values₀ count keys₀ vals₀ lkeys₀ lvals₀ used₀ groups₀ lo₀ addresses values keys vals lkeys lvals used groups lo =
     (lo ≤ p)
     × (length addresses ≡ length addresses₀)
     × (length values ≡ length values₀)
@@ -22,10 +22,10 @@ Inv-loop log to addresses₀ values₀ count keys₀ vals₀ lkeys₀ lvals₀ u
     × (length vals ≡ length vals₀)
     × (length lkeys ≡ length lkeys₀)
     × (length lvals ≡ length lvals₀)
-    × ((rs : List Record) → Walk log 0 to rs → Writing lo (cellsOf count addresses₀ values₀) rs (length keys₀ / 2) groups (cellsOf used addresses values))
+    × ((rs : List Record) → Walk (logOf revision log) 0 to rs → Writing lo (cellsOf count addresses₀ values₀) rs (length keys₀ / 2) groups (cellsOf used addresses values))
 
 abbrev μ-loop : tie.MeasureT-loop
-μ-loop log to addresses₀ values₀ count keys₀ vals₀ lkeys₀ lvals₀ used₀ groups₀ lo₀ addresses values keys vals lkeys lvals used groups lo = p - lo
+μ-loop log revision to addresses₀ values₀ count keys₀ vals₀ lkeys₀ lvals₀ used₀ groups₀ lo₀ addresses values keys vals lkeys lvals used groups lo = p - lo
 
 loop-holds : tie.Need-loop-holds Inv-loop μ-loop
 loop-holds c =

@@ -1,32 +1,50 @@
 -- `replay_scan::record::length_of` meets its contract. Assumes nothing.
-use borrow.Author.Tests.{ne-eqb}
+use borrow.Author.Tests.{eq-eqb, ne-eqb}
 use Rattle.machine.specs.Records.{lengthOf}
+use mathlib.Core.Path.{_∙_}
+use borrow.Author.Needs.{needs}
 use Rattle.replay_scan.proofs.record.length_of.Statement.{statement}
 use Rattle.replay_scan.proofs.record.length_of.Tie as tie
 
 returns : tie.Need-returns
 unfolding lengthOf
-returns c = rw (c .match .keys1)
+returns c =
+    rw (eq-eqb _ 1 (c .if1 .taken))
 
 returns-2 : tie.Need-returns-2
 unfolding lengthOf
-returns-2 c = rw (c .match .keys2)
+returns-2 c =
+    rw (ne-eqb _ 1 (c .before .if1 .left), eq-eqb _ 4 (c .if2 .taken))
 
 returns-3 : tie.Need-returns-3
 unfolding lengthOf
-returns-3 c = rw (c .match .keys3)
+returns-3 c =
+    rw (ne-eqb _ 1 (c .before .before .if1 .left), ne-eqb _ 4 (c .before .if2 .left), eq-eqb _ 5 (c .if3 .taken))
+
+timed-length-requires : tie.Need-timed-length-requires
+timed-length-requires c κs = search needs
 
 returns-4 : tie.Need-returns-4
 unfolding lengthOf
-returns-4 c = rw (c .match .keys4)
+returns-4 c =
+    c .timed-length .ensures ∙ rw (ne-eqb _ 1 (c .before .before .before .before .if1 .left), ne-eqb _ 4 (c .before .before .before .if2 .left), ne-eqb _ 5 (c .before .before .if3 .left), eq-eqb _ 2 (c .before .if4 .taken))
+
+plain-length-requires : tie.Need-plain-length-requires
+plain-length-requires c κs = search needs
 
 returns-5 : tie.Need-returns-5
 unfolding lengthOf
-returns-5 c = rw (c .match .keys5)
-
-returns-6 : tie.Need-returns-6
-unfolding lengthOf
-returns-6 c = simp (ne-eqb _ _ (c .match .rest .0 .0 .0 .0 .1), ne-eqb _ _ (c .match .rest .0 .0 .0 .1), ne-eqb _ _ (c .match .rest .0 .0 .1), ne-eqb _ _ (c .match .rest .0 .1), ne-eqb _ _ (c .match .rest .1))
+returns-5 c =
+    c .plain-length .ensures ∙ rw (ne-eqb _ 1 (c .before .before .before .before .if1 .left), ne-eqb _ 4 (c .before .before .before .if2 .left), ne-eqb _ 5 (c .before .before .if3 .left), ne-eqb _ 2 (c .before .if4 .left))
 
 pub length-of-spec : {M : Type 1} → statement M
-length-of-spec = tie.close (tie.spec returns returns-2 returns-3 returns-4 returns-5 returns-6)
+length-of-spec =
+    tie.close
+    (tie.spec
+    returns
+    returns-2
+    returns-3
+    timed-length-requires
+    returns-4
+    plain-length-requires
+    returns-5)

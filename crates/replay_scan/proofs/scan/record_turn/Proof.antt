@@ -1,6 +1,8 @@
 -- `replay_scan::scan::record_turn` meets its contract. Assumes nothing.
 use denote.Ref.{now}
-use Rattle.replay_scan.proofs.ScanLaws.{stack-size, ram-size, turn-stack, turn-ram, turn-other}
+use Rattle.replay_scan.specs.Walk.{logOf}
+use Rattle.replay_scan.proofs.Rows.{timed-long}
+use Rattle.replay_scan.proofs.ScanLaws.{stack-size, ram-size, turn-stack, turn-ram, turn-timed, turn-other}
 use native.Mathlib.Omega.{arith}
 use borrow.Author.Needs.{needs}
 use Rattle.replay_scan.proofs.scan.record_turn.Statement.{statement}
@@ -8,7 +10,7 @@ use Rattle.replay_scan.proofs.scan.record_turn.Tie as tie
 
 stack-fields-requires : tie.Need-stack-fields-requires
 stack-fields-requires c κs =
-    omega (arith, stack-size _ (c .if1 .taken))
+    omega (arith, stack-size (c .before .before .before .args .revision) _ (c .if1 .taken))
 
 stack-turn-requires : tie.Need-stack-turn-requires
 stack-turn-requires c κs = search needs
@@ -18,23 +20,34 @@ same-length c = search needs
 
 returns : tie.Need-returns
 returns c =
-    turn-stack _ _ _ _ _ _ _ (c .before .before .before .before .before .before .before .before .pre .1) _ (c .before .before .before .before .before .if1 .taken) (c .before .before .before .before .stack-fields .ensures) (c .before .before .stack-turn .ensures)
+    turn-stack _ _ _ _ _ _ _ (c .before .before .before .before .before .before .before .before .pre .2) _ (c .before .before .before .before .before .if1 .taken) (c .before .before .before .before .stack-fields .ensures) (c .before .before .stack-turn .ensures)
 
 ram-fields-requires : tie.Need-ram-fields-requires
 ram-fields-requires c κs =
-    omega (arith, ram-size _ (c .if2 .taken))
+    omega (arith, ram-size (c .before .before .before .before .args .revision) _ (c .if2 .taken))
 
 ram-turn-requires : tie.Need-ram-turn-requires
 ram-turn-requires c κs = search needs
 
 returns-2 : tie.Need-returns-2
 returns-2 c =
-    turn-ram _ _ _ _ _ _ _ (c .before .before .before .before .before .before .pre .1) _ (c .before .before .if2 .taken) (c .before .ram-fields .ensures) (c .ram-turn .ensures)
+    turn-ram _ _ _ _ _ _ _ (c .before .before .before .before .before .before .pre .2) _ (c .before .before .if2 .taken) (c .before .ram-fields .ensures) (c .ram-turn .ensures)
+
+timed-clock-requires : tie.Need-timed-clock-requires
+timed-clock-requires c κs =
+    (c .before .before .before .before .before .pre .0, timed-long (c .before .before .before .before .before .args .revision) _ (c .if3 .taken) (c .before .before .before .before .before .pre .1), c .if3 .taken)
+
+timed-turn-requires : tie.Need-timed-turn-requires
+timed-turn-requires c κs = search needs
 
 returns-3 : tie.Need-returns-3
 returns-3 c =
-    let a = c .before .before .before .before .args in
-    turn-other (now (a .log)) (a .at) (a .kind) (a .clock) (a .counts) (a .depth) (now (a .words)) (c .before .before .before .before .pre .1) (c .before .before .before .before .pre .2) (c .before .if1 .left) (c .if2 .left)
+    turn-timed _ _ _ _ _ _ _ (c .before .before .before .before .before .before .before .pre .2) _ (c .before .timed-clock .ensures) (c .timed-turn .ensures)
+
+returns-4 : tie.Need-returns-4
+returns-4 c =
+    let a = c .before .before .before .before .before .args in
+    turn-other (logOf (a .revision) (now (a .log))) (a .at) (a .kind) (a .clock) (a .counts) (a .depth) (now (a .words)) (c .before .before .before .before .before .pre .2) (c .before .before .before .before .before .pre .3) (c .before .before .if1 .left) (c .before .if2 .left) (c .if3 .left)
 
 pub record-turn-spec : {M : Type 1} → statement M
 record-turn-spec =
@@ -47,4 +60,7 @@ record-turn-spec =
     ram-fields-requires
     ram-turn-requires
     returns-2
-    returns-3)
+    timed-clock-requires
+    timed-turn-requires
+    returns-3
+    returns-4)

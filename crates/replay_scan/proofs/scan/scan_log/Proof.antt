@@ -7,14 +7,15 @@ use native.Mathlib.Omega.{arith}
 use mathlib.Core.Path.{_≡_, refl, _∙_}
 use lib.ListN.{length}
 use borrow.Author.Needs.{needs}
+use Rattle.replay_scan.specs.Walk.{logOf}
 use Rattle.replay_scan.proofs.scan.scan_log.Statement.{statement}
 use Rattle.replay_scan.proofs.scan.scan_log.Tie as tie
 
 abbrev Inv-loop : tie.InvT-loop
-Inv-loop log words₀ clock at₀ counts₀ depth₀ ram₀ words at counts depth ram = (at ≤ length log) × Places words depth × (length words ≡ length words₀) × Few counts × Going log words₀ clock at counts depth ram words
+Inv-loop log revision words₀ clock at₀ counts₀ depth₀ ram₀ words at counts depth ram = (at ≤ length log) × Places words depth × (length words ≡ length words₀) × Few counts × Going (logOf revision log) words₀ clock at counts depth ram words
 
 abbrev μ-loop : tie.MeasureT-loop
-μ-loop log words₀ clock at₀ counts₀ depth₀ ram₀ words at counts depth ram = length log - at
+μ-loop log revision words₀ clock at₀ counts₀ depth₀ ram₀ words at counts depth ram = length log - at
 
 loop-holds : tie.Need-loop-holds Inv-loop μ-loop
 loop-holds c =
@@ -24,8 +25,8 @@ head-at-requires : tie.Need-head-at-requires Inv-loop μ-loop
 head-at-requires c κs =
     c .loop .inv .0
 
-mul-t12 : tie.Need-mul-t12 Inv-loop μ-loop
-mul-t12 c =
+mul-t13 : tie.Need-mul-t13 Inv-loop μ-loop
+mul-t13 c =
     omega (arith, c .before .if1 .taken)
 
 same-length : tie.Need-same-length Inv-loop μ-loop
@@ -52,7 +53,7 @@ record-turn-requires : tie.Need-record-turn-requires Inv-loop μ-loop
 record-turn-requires c κs =
     let h = c .before .before .before .before .head-at in
     let t : h .result .state ≡ 2 = omega (arith, h .ensures .two) in
-    (omega (arith, h .ensures .fits t, h .ensures .sized t), c .before .before .before .before .before .loop .inv .1, c .before .before .before .before .before .loop .inv .3)
+    (omega (arith, h .ensures .fits t, h .ensures .sized t), h .ensures .some t, c .before .before .before .before .before .loop .inv .1, c .before .before .before .before .before .loop .inv .3)
 
 same-length-2 : tie.Need-same-length-2 Inv-loop μ-loop
 same-length-2 c =
@@ -98,7 +99,7 @@ scan-log-spec =
     μ-loop
     loop-holds
     head-at-requires
-    mul-t12
+    mul-t13
     same-length
     returns
     add-next

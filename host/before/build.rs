@@ -1,5 +1,5 @@
 //! Makes a copy of the library in the folder BEFORE, where that is set, whose names begin with `before_`, so that it can be linked
-//! beside the library itself. Needs nm and objcopy.
+//! beside the library itself. Needs nm and objcopy. A library of R-8 or later is not taken: it has one register more.
 use std::collections::BTreeSet;
 use std::env;
 use std::ffi::OsStr;
@@ -31,6 +31,10 @@ fn link(folder: &Path) -> Result<(), String> {
     // what it only uses, as memcpy, keeps its name
     let defined = run(Command::new("nm").args(["--extern-only", "--defined-only", "--format=posix"]).arg(&library))?;
     let defined: BTreeSet<&str> = defined.lines().filter_map(|line| Some(line.split_once(' ')?.0)).collect();
+    // R-8 brought this export together with the register
+    if defined.contains("triton_interface_version") {
+        return Err(format!("BEFORE is an earlier library from before R-8, found a later one in {}", folder.display()));
+    }
     let renamed: String = defined.iter().map(|name| format!("{name} before_{name}\n")).collect();
     fs::write(&names, renamed).map_err(|error| format!("{names}: {error}"))?;
     run(Command::new("objcopy").arg("--redefine-syms").args([OsStr::new(&names), library.as_os_str(), OsStr::new(&copy)]))?;
