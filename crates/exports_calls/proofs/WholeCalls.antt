@@ -5,7 +5,7 @@ use mathlib.Core.List.{List, [], _∷_}
 use mathlib.Core.Logic.{_⊎_, inl, inr}
 use Prim.Native.Nat.{ℕ}
 use native.Mathlib.Omega.{arith}
-use borrow.Author.Tests.{eqb-true, eqb-false}
+use borrow.Author.Tests.{eq-eqb, eqb-true, eqb-false}
 use lib.ListN.{length, replicate}
 use lib.Dec.{eqb}
 use Rattle.machine.specs.Refusal.{Refusal}
@@ -28,7 +28,7 @@ use Rattle.machine_perform.specs.AnswerView.{answeredBy}
 use Rattle.machine_vm.specs.RunView.{traceLog}
 use Rattle.replay.specs.Replay.{replayOf}
 use Rattle.exports_words.specs.Registers.{stateOf}
-use Rattle.exports_words.specs.Report.{report, stepReport, runReport}
+use Rattle.exports_words.specs.Report.{report, answerOf, stepReport, runReport}
 use Rattle.exports_words.specs.Calls.{Called, Recorded, recorded, fitsOf, misfitted, reported}
 use Rattle.exports_calls.specs.StepCall.{stepCall}
 use Rattle.exports_calls.specs.RunCall.{runGives, runCall, traceGives, traceCall}
@@ -36,7 +36,10 @@ use Rattle.exports_calls.specs.OpenCall.{openFitsOf, openGives, openCall
 use Rattle.exports_calls.specs.HelperCall.{noHelpers, helperCall}
 use Rattle.exports_calls.specs.ReplayCall.{Replied, replied, replayCall}
 use Rattle.exports_calls.proofs.RefusedCalls.{refusedCall, log-none, same, step-misfit, run-misfit, trace-misfit, open-misfit, helper-misfit, step-kept, step-lost, replay-refused}
+use Rattle.exports_calls.specs.declared.thin.Registers.{Registers}
+use Rattle.exports_calls.specs.ThinCall.{stateIn, Thin, thinly, told, thinGives, thinCall}
 use Rattle.exports_calls.proofs.ReplayCallLaws.{replay-misfits}
+use Rattle.exports_calls.proofs.ThinCallLaws.{thin-misfits, thin-kept}
 
 -- ---- step
 
@@ -182,21 +185,25 @@ unfolding helperVariablesOf
 helper-zeros m true h k = absurd (k (rw h))
 helper-zeros m false h k = rw h
 
-helper-unfit : (v : List ℕ) (t : Bool) → eqb (length v) 6 ≡ t → (noHelpers v ≡ replicate 6 0) ⊎ (noHelpers v ≡ v)
+-- what is left in the slice v: six zeros, or v itself where it has not six words
+abbrev pub HelperTurned : List ℕ → List ℕ → Type 0
+HelperTurned v x = (x ≡ replicate 6 0) ⊎ ((length v ≡ 6 → ⊥) × (x ≡ v))
+
+helper-unfit : (v : List ℕ) (t : Bool) → eqb (length v) 6 ≡ t → HelperTurned v (noHelpers v)
 unfolding noHelpers
 helper-unfit v true h = inl (rw h)
-helper-unfit v false h = inr (rw h)
+helper-unfit v false h = inr (eqb-false (length v) 6 h, rw h)
 
--- a helper call that gives a number: six zeros, and a slice of another length stays. Registers and memory are only read
-pub helper-whole : (w v : List ℕ) (c : Code) (m : Memory) → (helperCall w v c m .number ≡ 0 → ⊥) → (helperCall w v c m .helpers ≡ replicate 6 0) ⊎ (helperCall w v c m .helpers ≡ v)
+-- a helper call that gives a number. Registers and memory are only read
+pub helper-whole : (w v : List ℕ) (c : Code) (m : Memory) → (helperCall w v c m .number ≡ 0 → ⊥) → HelperTurned v (helperCall w v c m .helpers)
 helper-whole w v c m z = go (fitsOf w v 6) refl
   where
-    go : (t : Bool) → fitsOf w v 6 ≡ t → (helperCall w v c m .helpers ≡ replicate 6 0) ⊎ (helperCall w v c m .helpers ≡ v)
+    go : (t : Bool) → fitsOf w v 6 ≡ t → HelperTurned v (helperCall w v c m .helpers)
     go true h =
         let e = helper-fitted w v c m h in
         let x = machine (stateOf w) c m in
         inl (ap (λ (y : Helped). y .helpers) e ∙ helper-zeros x (eqb (machineA x) 0) refl (λ y. z (ap (λ (i : Helped). i .number) e ∙ y)))
-    go false h = subst (λ (x : Helped). (x .helpers ≡ replicate 6 0) ⊎ (x .helpers ≡ v)) (sym (helper-misfit w v c m h)) (helper-unfit v (eqb (length v) 6) refl)
+    go false h = subst (λ (x : Helped). HelperTurned v (x .helpers)) (sym (helper-misfit w v c m h)) (helper-unfit v (eqb (length v) 6) refl)
 
 -- a replay that gives a number: stack slice and RAM slices stay; the answer says the number and zeros, and one of another length stays
 pub data ReplayTurned (a s : List ℕ) (c : Cells) : Replied → Type 0 where
@@ -213,3 +220,36 @@ replay-whole a log s v j c z = go (eqb (length a) 3) refl
     go : (t : Bool) → eqb (length a) 3 ≡ t → ReplayTurned a s c (replayCall a log v j c s)
     go true h = subst (ReplayTurned a s c) (sym (replay-refused a log s v j c (eqb-true (length a) 3 h) (λ y. z (replay-number a log s v j c h ∙ y)))) unchanged
     go false h = subst (ReplayTurned a s c) (replay-misfits a log s v j c (eqb-false (length a) 3 h)) misfit-stays
+
+-- ---- step over the register record
+
+module _ (r : Registers) (a : List ℕ) (c : Code) (m : Memory) where
+  abbrev stand : Machine
+  stand = machine (stateIn r) c m
+
+  pub data ThinTurned (b : List ℕ) : Thin → Type 0 where
+    -- the answer has not seven words: nothing is changed
+    misfit-stays : ThinTurned b (thinly 1 r a m b)
+    -- nothing is changed but the answer
+    unchanged : (q : Refusal) → ThinTurned b (thinly (q .number) r (answerOf (report 3 q 0 0)) m b)
+    -- skiz on 0 with no next slot, number 11: only its word is dropped
+    word-dropped : (q : Refusal) → AtSkiz (machine (stateIn r) c m) q → ThinTurned b (told r (report 3 q 0 0) (dropped (machine (stateIn r) c m)) b)
+
+  thin-taken : (b : List ℕ) (x : Machine) → length a ≡ 7 → stepOf stand b .outcome ≡ took x → thinCall r a c m b .number ≡ 0
+  unfolding thinCall
+  thin-taken b x h e = rw (eq-eqb _ 7 h) (λ d. stepReport (answeredBy (e d)) (stepOf stand b .bytes) .number)
+
+  thin-lost : (b : List ℕ) (q : Refusal) → length a ≡ 7 → stepOf stand b ≡ (record { outcome = lost q (dropped stand); bytes = 0; buffer = b }) → thinCall r a c m b ≡ told r (report 3 q 0 0) (dropped stand) b
+  unfolding thinCall
+  thin-lost b q h e = rw (eq-eqb _ 7 h) (ap (thinGives r stand) e)
+
+  thin-by : (b : List ℕ) (s : Stepped) → length a ≡ 7 → stepOf stand b ≡ s → M.StepRefused stand b s → ThinTurned b (thinCall r a c m b)
+  thin-by b _ h e (M.unchanged {r = q}) = subst (ThinTurned b) (sym (thin-kept r a c m b h q (ap (λ (s : Stepped). s .outcome) e))) (unchanged q)
+  thin-by b _ h e (M.word-dropped {r = q} k) = subst (ThinTurned b) (sym (thin-lost b q h e)) (word-dropped q k)
+
+  pub thin-whole : (b : List ℕ) → (thinCall r a c m b .number ≡ 0 → ⊥) → ThinTurned b (thinCall r a c m b)
+  thin-whole b z = go (eqb (length a) 7) refl
+    where
+      go : (t : Bool) → eqb (length a) 7 ≡ t → ThinTurned b (thinCall r a c m b)
+      go true h = let l = eqb-true (length a) 7 h in thin-by b (stepOf stand b) l refl (M.step-refused stand b (λ x e. z (thin-taken b x l e)))
+      go false h = subst (ThinTurned b) (thin-misfits r a c m b (eqb-false (length a) 7 h)) misfit-stays
