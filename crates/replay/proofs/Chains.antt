@@ -126,7 +126,7 @@ module _ (decide : Machine → Decision) (facts : (m : Machine) → Sound m → 
           let n : x .state .clock ≡ m .state .clock + 1 = next-clock m x t in
           let k = next-reads m x s t j o c al l h in
           let i : j - m .state .clock ≡ suc (j - x .state .clock) = omega arith in
-          rw i (split-more (k .reads) (ih (omega arith) (omega arith) (k .now) (k .alike) (k .counts) (fresh-next (k .counts) (x .state .clock) (omega (arith, k .rise)) (omega (arith, k .below))) z))
+          rw i (split-more (k .reads) (ih (omega arith) (omega arith) (k .now) (k .alike) (k .counts) (fresh-next (k .counts) (x .state .clock) (omega (arith, k .rise))) z))
       go false q f ih =
           let o : j ≤ m .state .clock = ltb-false (m .state .clock) j q in
           let i : j - m .state .clock ≡ 0 = omega arith in

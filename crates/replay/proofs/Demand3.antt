@@ -96,26 +96,26 @@ module _ (decide : Machine → Decision) (facts : (m : Machine) → Sound m → 
     opens : Opened (o .revision) m
     opens = open-sound (o .revision) (o .digest) (o .code) (o .memory) (o .count) m (o .opens)
 
-    opening : started (replicate (length (m .memory .opStack)) 0) c ≡ shadow (tally 0 0 0 0 0) m c
+    opening : started (replicate (length (m .memory .opStack)) 0) c ≡ shadow (tally 0 0 0 0) m c
     opening = rw (opens .depth, under-zeros (m .memory .opStack))
 
-    split : Split j (shadow (tally 0 0 0 0 0) m c) (recordsOfJob decide m asks) (machineAt decide m asks j)
+    split : Split j (shadow (tally 0 0 0 0) m c) (recordsOfJob decide m asks) (machineAt decide m asks j)
     split =
         let e : j - m .state .clock ≡ j = omega (arith, opens .clock) in
         rw e at
-        (chain-split decide facts (job-chain decide asks m) (opens .sound) j (omega (arith, opens .clock)) (omega (arith, o .clock)) c (o .same) (tally 0 0 0 0 0) (rw (opens .clock) fresh-first) m)
+        (chain-split decide facts (job-chain decide asks m) (opens .sound) j (omega (arith, opens .clock)) (omega (arith, o .clock)) c (o .same) (tally 0 0 0 0) (rw (opens .clock) fresh-first) m)
 
     all-sized : All (Sized (m .state .revision)) (recordsOfJob decide m asks)
     all-sized = all-map (since-sized (m .state .revision) (m .state .clock)) (chain-fine decide facts (job-chain decide asks m) (opens .sound))
 
     over-records : (rs : List Record) → All (Sized (m .state .revision)) rs → length (logBytes (m .state .revision) rs) ≤ 16777216 →
-        replayed m c (logBytes (m .state .revision) rs) j ≡ finished (replayRecords j (shadow (tally 0 0 0 0 0) m c) rs) (replicate (length (m .memory .opStack)) 0) c
+        replayed m c (logBytes (m .state .revision) rs) j ≡ finished (replayRecords j (shadow (tally 0 0 0 0) m c) rs) (replicate (length (m .memory .opStack)) 0) c
     over-records rs s l = rw (← opening) (replay-is (m .state .revision) c (length (m .memory .opStack)) j rs (replay-accepts m c (logBytes (m .state .revision) rs) (opens .sound) (o .same) l) s)
 
     rebuilt : Rebuilt (replayed m c (logBytes (m .state .revision) (recordsOfJob decide m asks)) j) (machineAt decide m asks j)
     rebuilt =
         let s = split in
-        let h : replayRecords j (shadow (tally 0 0 0 0 0) m c) (recordsOfJob decide m asks) ≡ fine (shadow (s .counts) (machineAt decide m asks j) (s .now)) =
+        let h : replayRecords j (shadow (tally 0 0 0 0) m c) (recordsOfJob decide m asks) ≡ fine (shadow (s .counts) (machineAt decide m asks j) (s .now)) =
         rw (s .joined) (replay-on (s .behind) (s .reads) ∙ replay-late j _ (s .behind) (s .rest)) in
         rw (over-records (recordsOfJob decide m asks) all-sized (o .short), h) (record { succeeds = refl; depth = refl; used = s .alike; words = refl })
 

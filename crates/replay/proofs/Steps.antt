@@ -5,7 +5,7 @@ use mathlib.Core.List.{List, [], _∷_, _++_}
 use Prim.Native.Nat.{ℕ, zero, suc, _+_, _-_, _≤_, _<_}
 use native.Mathlib.Nat.{add-zero, sub-zero}
 use native.Mathlib.Omega.{arith}
-use borrow.Author.Tests.{eq-eqb, ne-eqb, leb-true, leb-false}
+use borrow.Author.Tests.{eq-eqb, ne-eqb, eqb-true, leb-true, leb-false}
 use lib.ListN.{length, getD, length-append}
 use lib.Dec.{eqb, leb, lit≤}
 use Rattle.choices.specs.Choice.{cond}
@@ -25,7 +25,7 @@ use Rattle.machine.proofs.OpStack.{applied-words, applied-length, applied-below
 use Rattle.machine.proofs.Bytes.{bytes-length}
 use Rattle.machine.proofs.Records.{words-bytes-length, stack-grows, stack-shrinks}
 use Rattle.machine.proofs.Preserved.{Fits}
-use Rattle.replay.specs.Replay.{Tally, tally, tallyAt, withStack, withRam, withTimed, Built, built, goes, readOf}
+use Rattle.replay.specs.Replay.{Tally, tally, tallyAt, withStack, withRam, Built, built, goes, readOf}
 use Rattle.replay.specs.Demand3.{under}
 use Rattle.replay.proofs.Under.{under-same, under-length, under-more, under-top, under-less}
 use Rattle.replay.proofs.Verdicts.{Reads, none, more, reads-append, reads-snoc, All, all-append, ram-read, ram-write, stack-read, stack-write, other-read, timed-read}
@@ -35,65 +35,57 @@ use Rattle.replay.proofs.Verdicts.{Reads, none, more, reads-append, rea
 -- at clock t there are n stack records, of direction w
 pub record Counted (l : Tally) (t n w : ℕ) : Type 0 where
   pub rise : l .last ≤ t
-  pub below : l .clock ≤ t
   pub stacks : tallyAt l t .stacks ≡ n
   pub way : (n ≡ 0 → ⊥) → tallyAt l t .way ≡ w
 
 -- no record of the stack or of RAM yet
 pub record Fresh (l : Tally) (t : ℕ) : Type 0 where
   pub rise : l .last ≤ t
-  pub below : l .clock ≤ t
   pub stacks : tallyAt l t .stacks ≡ 0
   pub rams : tallyAt l t .rams ≡ 0
 
 -- at a higher clock nothing is counted yet
-pub fresh-next : (l : Tally) (t : ℕ) → l .last < t → l .clock < t → Fresh l t
+pub fresh-next : (l : Tally) (t : ℕ) → l .last < t → Fresh l t
 unfolding tallyAt
-fresh-next l t h k =
-    let n : l .clock ≡ t → ⊥ = λ e. omega arith in
-    record { rise = omega arith; below = omega arith; stacks = rw (ne-eqb (l .clock) t n); rams = rw (ne-eqb (l .clock) t n) }
+fresh-next l t h =
+    let n : l .last ≡ t → ⊥ = λ e. omega arith in
+    record { rise = omega arith; stacks = rw (ne-eqb (l .last) t n); rams = rw (ne-eqb (l .last) t n) }
 
-pub fresh-first : Fresh (tally 0 0 0 0 0) 0
+pub fresh-first : Fresh (tally 0 0 0 0) 0
 unfolding tallyAt
-fresh-first = record { rise = omega arith; below = omega arith; stacks = refl; rams = refl }
+fresh-first = record { rise = omega arith; stacks = refl; rams = refl }
 
-tally-same : (t w n m : ℕ) → tallyAt (tally t t w n m) t ≡ tally t t w n m
+tally-same : (l : Tally) (t : ℕ) → l .last ≡ t → tallyAt l t ≡ l
 unfolding tallyAt
-tally-same t w n m = rw (eq-eqb t t refl)
+tally-same l t e = rw (eq-eqb (l .last) t e)
+
+tally-last : (l : Tally) (t : ℕ) → tallyAt l t .last ≡ t
+unfolding tallyAt
+tally-last l t = go (eqb (l .last) t) refl
+  where
+    go : (u : Bool) → eqb (l .last) t ≡ u → cond u l (tally t 0 0 0) .last ≡ t
+    go true e = eqb-true (l .last) t e
+    go false e = refl
 
 -- a Tip5 or U32 record with a clock is not counted
-timed-stacks : (l : Tally) (t : ℕ) → tallyAt (withTimed l t) t .stacks ≡ tallyAt l t .stacks
-unfolding withTimed tallyAt
-timed-stacks l t = go (eqb (l .clock) t)
-  where
-    go : (u : Bool) → cond u (tally t (l .clock) (l .way) (l .stacks) (l .rams)) (tally t t 0 0 0) .stacks ≡ cond u l (tally (l .last) t 0 0 0) .stacks
-    go true = refl
-    go false = refl
+timed-same : (l : Tally) (t : ℕ) → tallyAt (tallyAt l t) t ≡ tallyAt l t
+timed-same l t = tally-same (tallyAt l t) t (tally-last l t)
 
-timed-rams : (l : Tally) (t : ℕ) → tallyAt (withTimed l t) t .rams ≡ tallyAt l t .rams
-unfolding withTimed tallyAt
-timed-rams l t = go (eqb (l .clock) t)
-  where
-    go : (u : Bool) → cond u (tally t (l .clock) (l .way) (l .stacks) (l .rams)) (tally t t 0 0 0) .rams ≡ cond u l (tally (l .last) t 0 0 0) .rams
-    go true = refl
-    go false = refl
-
-timed-counted : {l : Tally} {t w : ℕ} → Counted l t 0 w → Counted (withTimed l t) t 0 w
-unfolding withTimed
-timed-counted {l} {t} k = record { rise = omega arith; below = k .below; stacks = timed-stacks l t ∙ k .stacks; way = λ n. absurd (n refl) }
+timed-counted : {l : Tally} {t w : ℕ} → Counted l t 0 w → Counted (tallyAt l t) t 0 w
+timed-counted {l} {t} k = record { rise = omega (arith, tally-last l t); stacks = ap (λ z. z .stacks) (timed-same l t) ∙ k .stacks; way = λ n. absurd (n refl) }
 
 ram-rams : (l : Tally) (t : ℕ) → tallyAt (withRam l t) t .rams ≡ tallyAt l t .rams + 1
 unfolding withRam
-ram-rams l t = ap (λ z. z .rams) (tally-same t _ _ _)
+ram-rams l t = ap (λ z. z .rams) (tally-same _ t refl)
 
 ram-counted : {l : Tally} {t w : ℕ} → Counted l t 0 w → Counted (withRam l t) t 0 w
 unfolding withRam
-ram-counted {l} {t} k = record { rise = omega arith; below = omega arith; stacks = ap (λ z. z .stacks) (tally-same t _ _ _) ∙ k .stacks; way = λ n. absurd (n refl) }
+ram-counted {l} {t} k = record { rise = omega arith; stacks = ap (λ z. z .stacks) (tally-same _ t refl) ∙ k .stacks; way = λ n. absurd (n refl) }
 
 stack-counted : {l : Tally} {t n w : ℕ} → Counted l t n w → Counted (withStack l t w) t (suc n) w
 unfolding withStack
 stack-counted {l} {t} {n} k =
-    record { rise = omega arith; below = omega arith; stacks = ap (λ z. z .stacks) (tally-same t _ _ _) ∙ (omega (arith, k .stacks)); way = λ _. ap (λ z. z .way) (tally-same t _ _ _) }
+    record { rise = omega arith; stacks = ap (λ z. z .stacks) (tally-same _ t refl) ∙ (omega (arith, k .stacks)); way = λ _. ap (λ z. z .way) (tally-same _ t refl) }
 
 -- replay comes from b over the records rs to depth d, words s and cells alike to c, with n stack records of direction w at clock t
 record Comes (j t : ℕ) (b : Built) (rs : List Record) (d : ℕ) (s : List ℕ) (c : Cells) (n w : ℕ) : Type 0 where
@@ -107,7 +99,6 @@ record Comes (j t : ℕ) (b : Built) (rs : List Record) (d : ℕ) (s : List ℕ)
 pub record Arrives (j t : ℕ) (b : Built) (rs : List Record) (d : ℕ) (s : List ℕ) (c : Cells) : Type 0 where
   pub counts : Tally
   pub rise : counts .last ≤ t
-  pub below : counts .clock ≤ t
   pub now : Cells
   pub alike : Alike now c
   pub reads : Reads j b rs (built counts d s now)
@@ -136,7 +127,7 @@ module _ (v j t : ℕ) (early : t < j) where
   clocked-passes k b l d s c w h = go (eqb v 2)
     where
       go : (u : Bool) → Passes j t l d s c w (cond u (timed (k + 4) t b) (other k b))
-      go true = record { next = withTimed l t; counted = timed-counted h; rams = timed-rams l t; read = timed-read j t (built l d s c) early (h .rise) (k + 4) b }
+      go true = record { next = tallyAt l t; counted = timed-counted h; rams = ap (λ z. z .rams) (timed-same l t); read = timed-read j t (built l d s c) early (h .rise) (k + 4) b }
       go false = record { next = l; counted = h; rams = refl; read = other-read j k (built l d s c) b }
 
   calls-read : {c : Cells} {cs : List Call} → Honest c cs → touched c cs .count ≤ length (c .addresses) →
@@ -233,11 +224,11 @@ module _ (j t : ℕ) (early : t < j) where
         (shrink-one d n (omega arith) room (omega arith) (shrinking-read d n (omega arith) room (omega arith) l h))
 
 arrives : {j t : ℕ} {b : Built} {rs : List Record} {d : ℕ} {s : List ℕ} {c : Cells} {n w : ℕ} → Comes j t b rs d s c n w → Arrives j t b rs d s c
-arrives k = record { counts = k .counts; rise = k .counted .rise; below = k .counted .below; now = k .now; alike = k .alike; reads = k .reads }
+arrives k = record { counts = k .counts; rise = k .counted .rise; now = k .now; alike = k .alike; reads = k .reads }
 
 -- of either direction, where none is there yet
 recounted : {l : Tally} {t w : ℕ} (x : ℕ) → Counted l t 0 w → Counted l t 0 x
-recounted x k = record { rise = k .rise; below = k .below; stacks = k .stacks; way = λ n. absurd (n refl) }
+recounted x k = record { rise = k .rise; stacks = k .stacks; way = λ n. absurd (n refl) }
 
 grows-read : (j t : ℕ) → t < j → (s s2 : List ℕ) → Words s2 → length s2 ≤ 16777216 → (c now : Cells) → Alike now c → (d d2 : ℕ) → 16 ≤ d → d ≤ d2 → d2 ≤ length s2 → d2 ≤ d + 10 →
     (l : Tally) → Counted l t 0 1 → Arrives j t (built l d (under s2 d) now) (stackRecords t s s2 d d2) d2 (under s2 d2) c
@@ -351,10 +342,10 @@ module _ (m : Machine) (e : Effect) (sound : Sound m) (facts : Facts m e) (fits 
       (depthAfter m e) (under (stackAfter m e) (depthAfter m e)) (ramAfter m e)
   unfolding recordsOf
   step-reads j early now al l h =
-      let n : Counted l (m .state .clock) 0 1 = record { rise = h .rise; below = h .below; stacks = h .stacks; way = λ z. absurd (z refl) } in
+      let n : Counted l (m .state .clock) 0 1 = record { rise = h .rise; stacks = h .stacks; way = λ z. absurd (z refl) } in
       let a = calls-read (m .state .revision) j (m .state .clock) early (facts .calls) (fits .cells) l (m .state .depth) (under (m .memory .opStack) (m .state .depth)) now 1 al n (omega (arith, h .rams, facts .accesses)) in
       let b = stack-reads j early (ramAfter m e) (a .now) (a .alike) (a .counts) (a .counted) in
-      record { counts = b .counts; rise = b .rise; below = b .below; now = b .now; alike = b .alike; reads = reads-append (a .reads) (b .reads) }
+      record { counts = b .counts; rise = b .rise; now = b .now; alike = b .alike; reads = reads-append (a .reads) (b .reads) }
 
   pub step-fine : All (Fine (m .state .revision) (m .state .clock)) (recordsOf m e)
   unfolding recordsOf stackRecords

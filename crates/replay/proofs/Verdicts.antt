@@ -14,7 +14,7 @@ use Rattle.machine.specs.Bytes.{bytesOf}
 use Rattle.machine.specs.Records.{Record, other, timed, stack, ram}
 use Rattle.choices.proofs.Choice.{first-zero, above-not, differ-not}
 use Rattle.machine.proofs.Bytes.{is-word-of}
-use Rattle.replay.specs.Replay.{Tally, tallyAt, withStack, withRam, withTimed, Built, built, word40, fields40, clock41, stack45, ram45, stackFault, ramFault, stackTurn, ramTurn, stops, wrong, goes, judged, readOf, fine, onward, replayRecords}
+use Rattle.replay.specs.Replay.{Tally, tallyAt, withStack, withRam, Built, built, word40, fields40, clock41, stack45, ram45, stackFault, ramFault, stackTurn, ramTurn, stops, wrong, goes, judged, readOf, fine, onward, replayRecords}
 
 -- ---- records in a row
 
@@ -88,7 +88,7 @@ replay-late j b (r ∷ rs) (more p h) = go r p (replay-late j b rs h)
   where
     go : (x : Record) → Late j x → replayRecords j b rs ≡ fine b → replayRecords j b (x ∷ rs) ≡ fine b
     go (other k s) late-other e = e
-    go (timed k t s) (late-timed l) e = ap (onward b (λ x. replayRecords j x rs)) (judged-stops j t (clock41 (b .counts) t) (built (withTimed (b .counts) t) (b .depth) (b .words) (b .cells)) l)
+    go (timed k t s) (late-timed l) e = ap (onward b (λ x. replayRecords j x rs)) (judged-stops j t (clock41 (b .counts) t) (built (tallyAt (b .counts) t) (b .depth) (b .words) (b .cells)) l)
     go (stack t q d v) (late-stack l) e = ap (onward b (λ x. replayRecords j x rs)) (judged-stops j t (firstOf (fields40 d q v) (firstOf (clock41 (b .counts) t) (stackFault b t q d v))) (stackTurn b t d v) l)
     go (ram t a v d) (late-ram l) e = ap (onward b (λ x. replayRecords j x rs)) (judged-stops j t (firstOf (fields40 d a v) (firstOf (clock41 (b .counts) t) (ramFault b t a v d))) (ramTurn b t a v d) l)
 
@@ -132,7 +132,7 @@ module _ (j t : ℕ) (b : Built) (early : t < j) (rise : b .counts .last ≤ t) 
   unfolding clock41
   faultless d q v n h k l e = first-zero _ _ (fields-fine d q v h k l) ∙ first-zero _ _ (above-not (b .counts .last) t 41 rise) ∙ e
 
-  pub timed-read : (k : ℕ) (s : List ℕ) → readOf j b (timed k t s) ≡ goes (built (withTimed (b .counts) t) (b .depth) (b .words) (b .cells))
+  pub timed-read : (k : ℕ) (s : List ℕ) → readOf j b (timed k t s) ≡ goes (built (tallyAt (b .counts) t) (b .depth) (b .words) (b .cells))
   unfolding readOf clock41
   timed-read k s = judged-goes j t _ _ early (above-not (b .counts .last) t 41 rise)
 

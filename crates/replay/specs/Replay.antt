@@ -10,31 +10,27 @@ use Rattle.machine.specs.Bytes.{bytesOf, isWord}
 use Rattle.machine.specs.Records.{Record, other, timed, stack, ram, Parsed, ended, broken, found, parse}
 use Rattle.machine.specs.PlaceA.{tooLong, revision4}
 
--- the last clock; and what has been read at the clock of the last stack or RAM record: the direction of its stack records, and how many
--- records are of the stack and of RAM. Tip5 and U32 records with a clock move the last one and are not counted
+-- what has been read at the last clock: the direction of its stack records, and how many records are of the stack and of RAM. A Tip5 or
+-- U32 record with a clock moves the last clock and is not counted
 pub record Tally : Type 0 where
   pub last : ℕ
-  pub clock : ℕ
   pub way : ℕ
   pub stacks : ℕ
   pub rams : ℕ
 
-abbrev pub tally : ℕ → ℕ → ℕ → ℕ → ℕ → Tally
-tally l t w n m = record { last = l; clock = t; way = w; stacks = n; rams = m }
+abbrev pub tally : ℕ → ℕ → ℕ → ℕ → Tally
+tally t w n m = record { last = t; way = w; stacks = n; rams = m }
 
--- at clock t: counting starts anew where that is another one
+-- at clock t: counting starts anew where that is not the last one
 unfoldable pub tallyAt : Tally → ℕ → Tally
-tallyAt n t = cond (eqb (n .clock) t) n (tally (n .last) t 0 0 0)
+tallyAt n t = cond (eqb (n .last) t) n (tally t 0 0 0)
 
 -- and one record more
 unfoldable pub withStack : Tally → ℕ → ℕ → Tally
-withStack n t d = tally t t d (tallyAt n t .stacks + 1) (tallyAt n t .rams)
+withStack n t d = tally t d (tallyAt n t .stacks + 1) (tallyAt n t .rams)
 
 unfoldable pub withRam : Tally → ℕ → Tally
-withRam n t = tally t t (tallyAt n t .way) (tallyAt n t .stacks) (tallyAt n t .rams + 1)
-
-unfoldable pub withTimed : Tally → ℕ → Tally
-withTimed n t = tally t (n .clock) (n .way) (n .stacks) (n .rams)
+withRam n t = tally t (tallyAt n t .way) (tallyAt n t .stacks) (tallyAt n t .rams + 1)
 
 -- what replay has rebuilt so far, and what it has read at the last clock
 pub record Built : Type 0 where
@@ -48,7 +44,7 @@ built n d s c = record { counts = n; depth = d; words = s; cells = c }
 
 -- before the first record
 abbrev pub started : List ℕ → Cells → Built
-started s c = built (tally 0 0 0 0 0) 16 s c
+started s c = built (tally 0 0 0 0) 16 s c
 
 -- ---- the faults of a record, in order; 0 where there is none
 
@@ -113,7 +109,7 @@ judged j t n b = cond (ltb t j) (cond (eqb n 0) (goes b) (wrong n)) stops
 
 unfoldable pub readOf : ℕ → Built → Record → Verdict
 readOf j b (other k s) = goes b
-readOf j b (timed k t s) = judged j t (clock41 (b .counts) t) (built (withTimed (b .counts) t) (b .depth) (b .words) (b .cells))
+readOf j b (timed k t s) = judged j t (clock41 (b .counts) t) (built (tallyAt (b .counts) t) (b .depth) (b .words) (b .cells))
 readOf j b (stack t q d v) = judged j t (firstOf (fields40 d q v) (firstOf (clock41 (b .counts) t) (stackFault b t q d v))) (stackTurn b t d v)
 readOf j b (ram t a v d) = judged j t (firstOf (fields40 d a v) (firstOf (clock41 (b .counts) t) (ramFault b t a v d))) (ramTurn b t a v d)
 

@@ -4,9 +4,9 @@ use mathlib.Core.Bool.{Bool, true, false}
 use mathlib.Core.List.{List, []}
 use Prim.Native.Nat.{ℕ, zero, suc, _+_, _-_, _≤_, _<_}
 use native.Mathlib.Omega.{arith}
-use borrow.Author.Tests.{eq-eqb, ne-eqb, le-ltb, ltb-true, ltb-false, eqb-true, eqb-false}
+use borrow.Author.Tests.{eq-eqb, ne-eqb, le-ltb, ltb-true, ltb-false, leb-true, leb-false, eqb-true, eqb-false}
 use lib.ListN.{length, drop, getD, set, length-set}
-use lib.Dec.{eqb, ltb}
+use lib.Dec.{eqb, ltb, leb}
 use Rattle.choices.specs.Choice.{cond, firstOf, aboveOf, differOf}
 use Rattle.machine.specs.Words.{p}
 use Rattle.machine.specs.Ram.{Cells, cells}
@@ -17,16 +17,16 @@ use Rattle.machine.proofs.Bytes.{is-word-of}
 use Rattle.replay_scan.specs.declared.record.Fields.{Fields}
 use Rattle.replay_scan.specs.declared.scan.Counts.{Counts}
 use Rattle.replay_scan.specs.declared.scan.Turn.{Turn}
-use Rattle.replay.specs.Replay.{Tally, tally, tallyAt, withStack, withRam, withTimed, Built, built, word40, fields40, clock41, mostRecords, stack45, ram45, stackFault, stackTurn, judged}
+use Rattle.replay.specs.Replay.{Tally, tally, tallyAt, withStack, withRam, Built, built, word40, fields40, clock41, mostRecords, stack45, ram45, stackFault, stackTurn, judged}
 use Rattle.replay_scan.specs.RecordView.{recordAt, OfStack, OfRam, OfTimed}
 use Rattle.replay_scan.specs.Walk.{Log}
 use Rattle.replay_scan.specs.Scan.{write45, restOf, over45, Fine, of-other, of-timed, of-stack, of-ram, ramIn}
-use Rattle.replay_scan.specs.ScanView.{Places, tallyOf, Few, StackFault, Movable, Moved, verdictOf, Off, Turns, Stays, Times}
+use Rattle.replay_scan.specs.ScanView.{Places, tallyOf, Few, StackFault, Movable, Moved, verdictOf, Off, OwnTurn, Turns, Stays, Times}
 use Rattle.replay.proofs.Verdicts.{judged-stops, judged-goes, judged-wrong, word-nil}
 
 -- ---- faults
 
-pub word-above : (v : ℕ) → v < 18446744073709551616 → aboveOf v 18446744069414584320 40 ≡ word40 (bytesOf 8 v)
+word-above : (v : ℕ) → v < 18446744073709551616 → aboveOf v 18446744069414584320 40 ≡ word40 (bytesOf 8 v)
 unfolding word40
 word-above v h = rw (is-word-of v h) (go (ltb v p) refl)
   where
@@ -34,13 +34,27 @@ word-above v h = rw (is-word-of v h) (go (ltb v p) refl)
     go true e = let k : v < p = ltb-true v p e in above-not v 18446744069414584320 40 (omega arith)
     go false e = let k : p ≤ v = ltb-false v p e in above-is v 18446744069414584320 40 (omega arith)
 
-first-assoc : (a b c : ℕ) → firstOf (firstOf a b) c ≡ firstOf a (firstOf b c)
-unfolding firstOf
-first-assoc a b c = go (eqb a 0) refl
+first-is : (a b n : ℕ) → (n ≡ 0 → ⊥) → a ≡ n → firstOf a b ≡ n
+first-is a b n h e = first-left a b (λ z. h (sym e ∙ z)) ∙ e
+
+pub wrong-way : (d q v : ℕ) → 1 < d → fields40 d q v ≡ 40
+unfolding fields40
+wrong-way d q v h = first-is _ _ 40 (λ z. omega arith) (above-is d 1 40 h)
+
+pub wrong-place : (d q v : ℕ) → d ≤ 1 → 18446744069414584320 < q → q < 18446744073709551616 → fields40 d q v ≡ 40
+unfolding fields40
+wrong-place d q v h k l =
+    first-zero _ _ (above-not d 1 40 h) ∙ first-is _ _ 40 (λ z. omega arith) (sym (word-above q l) ∙ above-is q 18446744069414584320 40 k)
+
+pub right-place : (d q v : ℕ) → d ≤ 1 → q ≤ 18446744069414584320 → v < 18446744073709551616 → fields40 d q v ≡ cond (leb v 18446744069414584320) 0 40
+unfolding fields40
+right-place d q v h k l =
+    let m : q < 18446744073709551616 = omega arith in
+    first-zero _ _ (above-not d 1 40 h) ∙ first-zero _ _ (sym (word-above q m) ∙ above-not q 18446744069414584320 40 k) ∙ sym (word-above v l) ∙ go (leb v 18446744069414584320) refl
   where
-    go : (t : Bool) → eqb a 0 ≡ t → cond (eqb (cond (eqb a 0) b a) 0) c (cond (eqb a 0) b a) ≡ cond (eqb a 0) (cond (eqb b 0) c b) a
-    go true e = rw e
-    go false e = rw (e, e)
+    go : (t : Bool) → leb v 18446744069414584320 ≡ t → aboveOf v 18446744069414584320 40 ≡ cond t 0 40
+    go true e = above-not v 18446744069414584320 40 (leb-true v 18446744069414584320 e)
+    go false e = above-is v 18446744069414584320 40 (leb-false v 18446744069414584320 e)
 
 -- a pointer is compared without adding to it, where the depth is not 0
 differ-pred : (q d n : ℕ) → 0 < d → differOf q (d - 1) n ≡ differOf (q + 1) d n
@@ -57,7 +71,7 @@ differ-pred q d n h = go (eqb q (d - 1)) refl
         differ-is q (d - 1) n k ∙ sym (differ-is (q + 1) d n l)
 
 module _ (s : List ℕ) (depth : ℕ) (f : Fields) (over : ℕ) where
-  pub write-fault : (n : ℕ) → (f .dir ≡ 0 → ⊥) → n ≡ firstOf (differOf (f .place) depth 42) (firstOf over (aboveOf (depth - 15) (length s) 44)) → StackFault s depth f over n
+  write-fault : (n : ℕ) → (f .dir ≡ 0 → ⊥) → n ≡ firstOf (differOf (f .place) depth 42) (firstOf over (aboveOf (depth - 15) (length s) 44)) → StackFault s depth f over n
   unfolding stackFault
   write-fault n h e = record { is = λ l c q. e ∙ go l c (f .dir) h q }
     where
@@ -66,15 +80,30 @@ module _ (s : List ℕ) (depth : ℕ) (f : Fields) (over : ℕ) where
       go l c zero h q = absurd (h refl)
       go l c (suc d) h q = rw q
 
+  pub write-elsewhere : (f .dir ≡ 0 → ⊥) → (f .place ≡ depth → ⊥) → StackFault s depth f over 42
+  write-elsewhere h k = write-fault 42 h (sym (first-is _ _ 42 (λ z. omega arith) (differ-is (f .place) depth 42 k)))
+
+  pub write-over : (f .dir ≡ 0 → ⊥) → f .place ≡ depth → (over ≡ 0 → ⊥) → StackFault s depth f over over
+  write-over h k z = write-fault over h (sym (first-zero _ _ (differ-not (f .place) depth 42 k) ∙ first-left over _ z))
+
+  pub write-room : (n : ℕ) → (f .dir ≡ 0 → ⊥) → f .place ≡ depth → over ≡ 0 → n ≡ aboveOf (depth - 15) (length s) 44 → StackFault s depth f over n
+  write-room n h k z e = write-fault n h (e ∙ sym (first-zero _ _ (differ-not (f .place) depth 42 k) ∙ first-zero over _ z))
+
   pub shallow-fault : f .dir ≡ 0 → depth < 17 → StackFault s depth f over 42
   unfolding stackFault
   shallow-fault h l = record { is = λ t c q. rw h (sym (first-left _ _ (λ e. absurd (omega (arith, above-is 17 depth 42 l))) ∙ above-is 17 depth 42 l)) }
 
-  pub read-fault : (n : ℕ) → f .dir ≡ 0 → 17 ≤ depth → n ≡ firstOf (differOf (f .place) (depth - 1) 42) (firstOf (differOf (f .value) (getD s (depth - 17) 0) 43) over) → StackFault s depth f over n
+  read-fault : (n : ℕ) → f .dir ≡ 0 → 17 ≤ depth → n ≡ firstOf (differOf (f .place) (depth - 1) 42) (firstOf (differOf (f .value) (getD s (depth - 17) 0) 43) over) → StackFault s depth f over n
   unfolding stackFault
   read-fault n h l e =
       let k : 0 < depth = omega arith in
       record { is = λ t c q. let z : over ≡ stack45 t (f .clock) 0 = rw h at q in rw h (e ∙ rw (differ-pred (f .place) depth 42 k, z) (sym (first-zero _ _ (above-not 17 depth 42 l)))) }
+
+  pub read-elsewhere : f .dir ≡ 0 → 17 ≤ depth → (f .place ≡ depth - 1 → ⊥) → StackFault s depth f over 42
+  read-elsewhere h l k = read-fault 42 h l (sym (first-is _ _ 42 (λ z. omega arith) (differ-is (f .place) (depth - 1) 42 k)))
+
+  pub read-here : (n : ℕ) → f .dir ≡ 0 → 17 ≤ depth → f .place ≡ depth - 1 → n ≡ firstOf (differOf (f .value) (getD s (depth - 17) 0) 43) over → StackFault s depth f over n
+  read-here n h l k e = read-fault n h l (e ∙ sym (first-zero _ _ (differ-not (f .place) (depth - 1) 42 k)))
 
   -- without a fault there is a word to drop, or room for one
   pub movable : (l : Tally) → over ≡ stack45 l (f .clock) (f .dir) → Places s depth → StackFault s depth f over 0 → Movable s depth f
@@ -139,69 +168,109 @@ module _ (j t n : ℕ) (x : Built) (s : List ℕ) (c : Cells) (r : Turn) where
   unfolding verdictOf
   goes-is h k g e = judged-goes j t n x h k ∙ rw (g, e)
 
+-- ---- a record's clock and fields
+
+not-both : {b : Bool} → b ≡ false → b ≡ true → ⊥
+not-both e f = let z : _≡_ {A = ℕ} 0 1 = cc in omega arith
+
+module _ (j : ℕ) (n : Counts) (depth : ℕ) (f : Fields) {r : Turn} where
+  pub own-late : j ≤ f .clock → Off 0 depth r → OwnTurn j n depth f r
+  own-late l o =
+      record {
+        early = λ e. absurd (not-both (o .going) e);
+        fields = λ e. absurd (not-both (o .going) e);
+        clock = λ e. absurd (not-both (o .going) e);
+        ends = λ _ rest x s c. late-is j _ _ x s c r l (o .going) (o .number);
+        same = o .depth;
+      }
+
+  own-wrong : (k : ℕ) → f .clock < j → (k ≡ 0 → ⊥) → ((rest : ℕ) → firstOf (fields40 (f .dir) (f .place) (f .value)) (firstOf (clock41 (tallyOf n) (f .clock)) rest) ≡ k) → Off k depth r → OwnTurn j n depth f r
+  own-wrong k l z e o =
+      record {
+        early = λ e. absurd (not-both (o .going) e);
+        fields = λ e. absurd (not-both (o .going) e);
+        clock = λ e. absurd (not-both (o .going) e);
+        ends = λ _ rest x s c. wrong-is j _ _ x s c r l (λ q. z (sym (e rest) ∙ q)) (o .going) (o .number ∙ sym (e rest));
+        same = o .depth;
+      }
+
+  module _ (fit : Bool) (fit-is : fields40 (f .dir) (f .place) (f .value) ≡ cond fit 0 40) (l : f .clock < j) where
+    pub own-40 : fit ≡ false → Off 40 depth r → OwnTurn j n depth f r
+    own-40 e o = own-wrong 40 l (λ z. omega arith) (λ rest. first-is _ _ 40 (λ z. omega arith) (rw e at fit-is)) o
+
+    pub own-41 : fit ≡ true → f .clock < n .last → Off 41 depth r → OwnTurn j n depth f r
+    unfolding clock41
+    own-41 e k o = own-wrong 41 l (λ z. omega arith) (λ rest. first-zero _ _ (rw e at fit-is) ∙ first-is _ _ 41 (λ z. omega arith) (above-is (n .last) (f .clock) 41 k)) o
+
+    pub own-goes : fit ≡ true → n .last ≤ f .clock → r .going ≡ true → r .depth ≡ depth → OwnTurn j n depth f r
+    unfolding clock41
+    own-goes e k g d =
+        record {
+          early = λ _. l;
+          fields = λ _. rw e at fit-is;
+          clock = λ _. above-not (n .last) (f .clock) 41 k;
+          ends = λ z. absurd (not-both z g);
+          same = d;
+        }
+
 -- ---- a record of the op stack
 
--- what is counted at the record's clock is m
-module _ (j : ℕ) (n : Counts) (depth : ℕ) (s : List ℕ) (f : Fields) (h : Places s depth) where
+module _ (j : ℕ) (n : Counts) (depth : ℕ) (s : List ℕ) (f : Fields) (h : Places s depth) (own : Turn) (own-is : OwnTurn j n depth f own) where
   abbrev of-f : Record
   of-f = stack (f .clock) (f .place) (f .dir) (f .value)
 
-  off-places : {k : ℕ} {r : Turn} → Off k depth r → Places s (r .depth)
-  off-places o = rw (o .depth) h
-
-  pub stack-late : {r : Turn} → j ≤ f .clock → Off 0 depth r → Turns j n depth s of-f s r
+  pub stack-off : own .going ≡ false → Turns j n depth s of-f s own
   unfolding restOf ramIn
-  stack-late l o =
+  stack-off g =
       record {
-        is = λ c. late-is j _ _ _ s c _ l (o .going) (o .number);
-        over = λ e. absurd (let z : _≡_ {A = ℕ} 0 1 = cc (o .going) in omega arith);
-        few = λ e. absurd (let z : _≡_ {A = ℕ} 0 1 = cc (o .going) in omega arith);
+        is = λ c. own-is .ends g _ _ s c;
+        over = λ e. absurd (not-both g e);
+        few = λ e. absurd (not-both g e);
         fine = λ e. of-stack;
         quiet = λ e q. refl;
         kept = λ e. refl;
-        places = off-places o;
+        places = rw (own-is .same) h;
         room = refl;
       }
 
-  module _ (m : Counts) (m-is : (tallyOf m ≡ tallyAt (tallyOf n) (f .clock)) × Few m) (own over here k : ℕ) (early : f .clock < j)
-      (own-is : own ≡ firstOf (fields40 (f .dir) (f .place) (f .value)) (aboveOf (n .last) (f .clock) 41))
+  -- what is counted at the record's clock is m
+  module _ (m : Counts) (m-is : (tallyOf m ≡ tallyAt (tallyOf n) (f .clock)) × Few m) (over k : ℕ) (going : own .going ≡ true)
       (over-is : over ≡ firstOf (cond (eqb (m .stacks) 0) 0 (differOf (f .dir) (m .way) 45)) (aboveOf (m .stacks + 1) mostRecords 45))
-      (here-is : StackFault s depth f over here) (k-is : k ≡ firstOf own here) where
+      (here-is : StackFault s depth f over k) where
     is-45 : over ≡ stack45 (tallyOf n) (f .clock) (f .dir)
     unfolding stack45
     is-45 = over-is ∙ ap (λ (z : Tally). firstOf (cond (eqb (z .stacks) 0) 0 (differOf (f .dir) (z .way) 45)) (aboveOf (z .stacks + 1) mostRecords 45)) (m-is .0)
 
     fault-of : (c : Cells) → k ≡ firstOf (fields40 (f .dir) (f .place) (f .value)) (firstOf (clock41 (tallyOf n) (f .clock)) (stackFault (built (tallyOf n) depth s c) (f .clock) (f .place) (f .dir) (f .value)))
-    unfolding clock41
-    fault-of c = k-is ∙ rw (own-is, here-is .is (tallyOf n) c is-45) (first-assoc _ _ _)
+    fault-of c = here-is .is (tallyOf n) c is-45 ∙ sym (first-zero _ _ (own-is .fields going) ∙ first-zero _ _ (own-is .clock going))
 
     pub stack-wrong : {r : Turn} → (k ≡ 0 → ⊥) → Off k depth r → Turns j n depth s of-f s r
     unfolding restOf ramIn
     stack-wrong z o =
         record {
-          is = λ c. wrong-is j _ _ _ s c _ early (λ e. z (fault-of c ∙ e)) (o .going) (o .number ∙ fault-of c);
-          over = λ e. absurd (let z : _≡_ {A = ℕ} 0 1 = cc (o .going) in omega arith);
-          few = λ e. absurd (let z : _≡_ {A = ℕ} 0 1 = cc (o .going) in omega arith);
+          is = λ c. wrong-is j _ _ _ s c _ (own-is .early going) (λ e. z (fault-of c ∙ e)) (o .going) (o .number ∙ fault-of c);
+          over = λ e. absurd (not-both (o .going) e);
+          few = λ e. absurd (not-both (o .going) e);
           fine = λ e. of-stack;
           quiet = λ e q. refl;
           kept = λ e. refl;
-          places = off-places o;
+          places = rw (o .depth) h;
           room = refl;
         }
 
     nothing-here : k ≡ 0 → StackFault s depth f over 0
-    nothing-here e = record { is = λ l c q. sym (first-nil own here (sym k-is ∙ e) .1) ∙ here-is .is l c q }
+    nothing-here e = record { is = λ l c q. sym e ∙ here-is .is l c q }
 
     pub stack-movable : k ≡ 0 → Movable s depth f
     stack-movable e = movable s depth f over (tallyOf n) is-45 h (nothing-here e)
 
     -- one stack record more
     abbrev behind : Counts
-    behind = record { last = f .clock; clock = f .clock; way = f .dir; stacks = m .stacks + 1; rams = m .rams }
+    behind = record { last = f .clock; way = f .dir; stacks = m .stacks + 1; rams = m .rams }
 
     behind-is : withStack (tallyOf n) (f .clock) (f .dir) ≡ tallyOf behind
     unfolding withStack
-    behind-is = ap (λ (z : Tally). tally (f .clock) (f .clock) (f .dir) (z .stacks + 1) (z .rams)) (sym (m-is .0))
+    behind-is = ap (λ (z : Tally). tally (f .clock) (f .dir) (z .stacks + 1) (z .rams)) (sym (m-is .0))
 
     behind-few : k ≡ 0 → Few behind
     behind-few e =
@@ -212,7 +281,7 @@ module _ (j : ℕ) (n : Counts) (depth : ℕ) (s : List ℕ) (f : Fields) (h : P
     unfolding restOf ramIn over45
     stack-goes after d e o =
         record {
-          is = λ c. goes-is j _ _ _ after c _ early (sym (fault-of c) ∙ e) refl (o .is (tallyOf n) c ∙ ap (λ (z : Tally). built z d after c) behind-is);
+          is = λ c. goes-is j _ _ _ after c _ (own-is .early going) (sym (fault-of c) ∙ e) refl (o .is (tallyOf n) c ∙ ap (λ (z : Tally). built z d after c) behind-is);
           over = λ _. refl;
           few = λ _ _. behind-few e;
           fine = λ e. of-stack;
@@ -242,66 +311,63 @@ unfolding write45 over45
 over-45 l t a v zero over e f = sym e
 over-45 l t a v (suc d) over e f = sym (e ∙ f)
 
-module _ (j : ℕ) (n : Counts) (depth : ℕ) (f : Fields) where
+module _ (j : ℕ) (n : Counts) (depth : ℕ) (f : Fields) (own : Turn) (own-is : OwnTurn j n depth f own) where
   abbrev of-ram-f : Record
   of-ram-f = ram (f .clock) (f .place) (f .value) (f .dir)
 
-  pub ram-late : {r : Turn} → j ≤ f .clock → Off 0 depth r → Stays j n depth of-ram-f r
+  pub ram-off : own .going ≡ false → Stays j n depth of-ram-f own
   unfolding restOf
-  ram-late l o =
+  ram-off g =
       record {
-        is = λ s c. late-is j _ _ _ s c _ l (o .going) (o .number);
-        over = λ e. absurd (let z : _≡_ {A = ℕ} 0 1 = cc (o .going) in omega arith);
-        few = λ e. absurd (let z : _≡_ {A = ℕ} 0 1 = cc (o .going) in omega arith);
-        fine = λ e. absurd (let z : _≡_ {A = ℕ} 0 1 = cc (o .going) in omega arith);
-        quiet = λ e. absurd (let z : _≡_ {A = ℕ} 0 1 = cc (o .going) in omega arith);
-        same = o .depth;
+        is = λ s c. own-is .ends g _ _ s c;
+        over = λ e. absurd (not-both g e);
+        few = λ e. absurd (not-both g e);
+        fine = λ e. absurd (not-both g e);
+        quiet = λ e. absurd (not-both g e);
+        same = own-is .same;
       }
 
-  module _ (m : Counts) (m-is : (tallyOf m ≡ tallyAt (tallyOf n) (f .clock)) × Few m) (own over written k : ℕ) (early : f .clock < j)
-      (own-is : own ≡ firstOf (fields40 (f .dir) (f .place) (f .value)) (aboveOf (n .last) (f .clock) 41))
-      (over-is : over ≡ aboveOf (m .rams + 1) mostRecords 45) (written-is : written ≡ cond (eqb (f .dir) 0) 0 over) (k-is : k ≡ firstOf own written) where
+  module _ (m : Counts) (m-is : (tallyOf m ≡ tallyAt (tallyOf n) (f .clock)) × Few m) (over k : ℕ) (going : own .going ≡ true)
+      (over-is : over ≡ aboveOf (m .rams + 1) mostRecords 45) (k-is : k ≡ cond (eqb (f .dir) 0) 0 over) where
     is-ram-45 : over ≡ ram45 (tallyOf n) (f .clock)
     unfolding ram45
     is-ram-45 = over-is ∙ ap (λ (z : Tally). aboveOf (z .rams + 1) mostRecords 45) (m-is .0)
 
-    is-write-45 : written ≡ write45 (tallyOf n) (f .clock) (f .dir)
-    is-write-45 = written-is ∙ write-45 (tallyOf n) (f .clock) (f .dir) over is-ram-45
+    is-write-45 : k ≡ write45 (tallyOf n) (f .clock) (f .dir)
+    is-write-45 = k-is ∙ write-45 (tallyOf n) (f .clock) (f .dir) over is-ram-45
 
     ram-fault-of : k ≡ firstOf (fields40 (f .dir) (f .place) (f .value)) (firstOf (clock41 (tallyOf n) (f .clock)) (write45 (tallyOf n) (f .clock) (f .dir)))
-    unfolding clock41
-    ram-fault-of = k-is ∙ rw (own-is, is-write-45) (first-assoc _ _ _)
+    ram-fault-of = is-write-45 ∙ sym (first-zero _ _ (own-is .fields going) ∙ first-zero _ _ (own-is .clock going))
 
     pub ram-wrong : {r : Turn} → (k ≡ 0 → ⊥) → Off k depth r → Stays j n depth of-ram-f r
     unfolding restOf
     ram-wrong z o =
         record {
-          is = λ s c. wrong-is j _ _ _ s c _ early (λ e. z (ram-fault-of ∙ e)) (o .going) (o .number ∙ ram-fault-of);
-          over = λ e. absurd (let z : _≡_ {A = ℕ} 0 1 = cc (o .going) in omega arith);
-          few = λ e. absurd (let z : _≡_ {A = ℕ} 0 1 = cc (o .going) in omega arith);
-          fine = λ e. absurd (let z : _≡_ {A = ℕ} 0 1 = cc (o .going) in omega arith);
-          quiet = λ e. absurd (let z : _≡_ {A = ℕ} 0 1 = cc (o .going) in omega arith);
+          is = λ s c. wrong-is j _ _ _ s c _ (own-is .early going) (λ e. z (ram-fault-of ∙ e)) (o .going) (o .number ∙ ram-fault-of);
+          over = λ e. absurd (not-both (o .going) e);
+          few = λ e. absurd (not-both (o .going) e);
+          fine = λ e. absurd (not-both (o .going) e);
+          quiet = λ e. absurd (not-both (o .going) e);
           same = o .depth;
         }
 
     -- one RAM record more
     abbrev ram-behind : Counts
-    ram-behind = record { last = f .clock; clock = f .clock; way = m .way; stacks = m .stacks; rams = m .rams + 1 }
+    ram-behind = record { last = f .clock; way = m .way; stacks = m .stacks; rams = m .rams + 1 }
 
     ram-behind-is : withRam (tallyOf n) (f .clock) ≡ tallyOf ram-behind
     unfolding withRam
-    ram-behind-is = ap (λ (z : Tally). tally (f .clock) (f .clock) (z .way) (z .stacks) (z .rams + 1)) (sym (m-is .0))
+    ram-behind-is = ap (λ (z : Tally). tally (f .clock) (z .way) (z .stacks) (z .rams + 1)) (sym (m-is .0))
 
     pub ram-goes : k ≡ 0 → f .place < 18446744073709551616 → f .value < 18446744073709551616 →
         Stays j n depth of-ram-f (record { going = true; number = over; counts = ram-behind; depth = depth; ram = 1 })
     unfolding restOf
     ram-goes e h g =
-        let x = first-nil _ _ (sym ram-fault-of ∙ e) in
         record {
-          is = λ s c. goes-is j _ _ _ s c _ early (sym ram-fault-of ∙ e) refl (ap (λ (z : Tally). built z depth s c) ram-behind-is);
-          over = λ _. over-45 (tallyOf n) (f .clock) (f .place) (f .value) (f .dir) over is-ram-45 (first-nil _ _ (x .1) .1);
+          is = λ s c. goes-is j _ _ _ s c _ (own-is .early going) (sym ram-fault-of ∙ e) refl (ap (λ (z : Tally). built z depth s c) ram-behind-is);
+          over = λ _. over-45 (tallyOf n) (f .clock) (f .place) (f .value) (f .dir) over is-ram-45 (sym is-write-45 ∙ e);
           few = λ _ z. record { stacks = m-is .1 .stacks; rams = above-nil (m .rams + 1) mostRecords 45 (omega arith) (sym over-is ∙ z) };
-          fine = λ _. fine-ram _ _ _ _ h g (x .0);
+          fine = λ _. fine-ram _ _ _ _ h g (own-is .fields going);
           quiet = λ _ q. absurd (omega arith);
           same = refl;
         }
@@ -309,55 +375,46 @@ module _ (j : ℕ) (n : Counts) (depth : ℕ) (f : Fields) where
 -- ---- a record of kind 6 or 7
 
 module _ (j : ℕ) (n : Counts) (depth t : ℕ) where
-  pub timed-late : {r : Turn} → j ≤ t → Off 0 depth r → Times j n depth t r
+  timed-off : (k : ℕ) {r : Turn} → ((x : Built) (s : List ℕ) (c : Cells) → judged j t (clock41 (tallyOf n) t) x ≡ verdictOf r s c) → Off k depth r → Times j n depth t r
   unfolding restOf
-  timed-late l o =
+  timed-off k e o =
       record {
         stays =
-            λ k fields.
+            λ _ fields.
             record {
-              is = λ s c. late-is j _ _ _ s c _ l (o .going) (o .number);
-              over = λ e. absurd (let z : _≡_ {A = ℕ} 0 1 = cc (o .going) in omega arith);
-              few = λ e. absurd (let z : _≡_ {A = ℕ} 0 1 = cc (o .going) in omega arith);
-              fine = λ e. of-timed;
-              quiet = λ e. absurd (let z : _≡_ {A = ℕ} 0 1 = cc (o .going) in omega arith);
+              is = λ s c. e _ s c;
+              over = λ z. absurd (not-both (o .going) z);
+              few = λ z. absurd (not-both (o .going) z);
+              fine = λ z. of-timed;
+              quiet = λ z. absurd (not-both (o .going) z);
               same = o .depth;
             };
       }
 
-  module _ (fault : ℕ) (early : t < j) (is-41 : fault ≡ aboveOf (n .last) t 41) where
-    pub timed-wrong : {r : Turn} → (fault ≡ 0 → ⊥) → Off fault depth r → Times j n depth t r
-    unfolding restOf clock41
-    timed-wrong k o =
-        record {
-          stays =
-              λ _ fields.
-              record {
-                is = λ s c. wrong-is j _ _ _ s c _ early (λ e. k (is-41 ∙ e)) (o .going) (o .number ∙ is-41);
-                over = λ e. absurd (let z : _≡_ {A = ℕ} 0 1 = cc (o .going) in omega arith);
-                few = λ e. absurd (let z : _≡_ {A = ℕ} 0 1 = cc (o .going) in omega arith);
-                fine = λ e. of-timed;
-                quiet = λ e. absurd (let z : _≡_ {A = ℕ} 0 1 = cc (o .going) in omega arith);
-                same = o .depth;
-              };
-        }
+  pub timed-late : {r : Turn} → j ≤ t → Off 0 depth r → Times j n depth t r
+  timed-late l o = timed-off 0 (λ x s c. late-is j t _ x s c _ l (o .going) (o .number)) o
 
-    pub timed-goes : Few n → fault ≡ 0 →
-        Times j n depth t (record { going = true; number = 0; counts = record { last = t; clock = n .clock; way = n .way; stacks = n .stacks; rams = n .rams }; depth = depth; ram = 0 })
-    unfolding restOf clock41 withTimed over45 ramIn
-    timed-goes few e =
-        record {
-          stays =
-              λ _ fields.
-              record {
-                is = λ s c. goes-is j _ _ _ s c _ early (sym is-41 ∙ e) refl refl;
-                over = λ _. refl;
-                few = λ _ _. record { stacks = few .stacks; rams = few .rams };
-                fine = λ _. of-timed;
-                quiet = λ _ _. refl;
-                same = refl;
-              };
-        }
+  pub timed-41 : {r : Turn} → t < j → t < n .last → Off 41 depth r → Times j n depth t r
+  unfolding clock41
+  timed-41 l k o =
+      let e = above-is (n .last) t 41 k in
+      timed-off 41 (λ x s c. wrong-is j t _ x s c _ l (λ z. absurd (omega (arith, e, z))) (o .going) (o .number ∙ sym e)) o
+
+  pub timed-goes : t < j → n .last ≤ t → (m : Counts) → (tallyOf m ≡ tallyAt (tallyOf n) t) × Few m → Times j n depth t (record { going = true; number = 0; counts = m; depth = depth; ram = 0 })
+  unfolding restOf clock41 over45 ramIn
+  timed-goes l k m m-is =
+      record {
+        stays =
+            λ _ fields.
+            record {
+              is = λ s c. goes-is j _ _ _ s c _ l (above-not (n .last) t 41 k) refl (ap (λ (z : Tally). built z depth s c) (sym (m-is .0)));
+              over = λ _. refl;
+              few = λ _ _. m-is .1;
+              fine = λ _. of-timed;
+              quiet = λ _ _. refl;
+              same = refl;
+            };
+      }
 
 -- ---- a record by its kind
 
@@ -397,10 +454,10 @@ module _ (log : Log) (at kind j : ℕ) (n : Counts) (depth : ℕ) (s : List ℕ)
 
 -- ---- what is counted
 
-pub counts-same : (n : Counts) (t : ℕ) → Few n → n .clock ≡ t → (tallyOf n ≡ tallyAt (tallyOf n) t) × Few n
+pub counts-same : (n : Counts) (t : ℕ) → Few n → n .last ≡ t → (tallyOf n ≡ tallyAt (tallyOf n) t) × Few n
 unfolding tallyAt
-counts-same n t f e = (rw (eq-eqb (n .clock) t e), f)
+counts-same n t f e = (rw (eq-eqb (n .last) t e), f)
 
-pub counts-anew : (n : Counts) (t : ℕ) → (n .clock ≡ t → ⊥) → (tally (n .last) t 0 0 0 ≡ tallyAt (tallyOf n) t) × Few (record { last = n .last; clock = t; way = 0; stacks = 0; rams = 0 })
+pub counts-anew : (n : Counts) (t : ℕ) → (n .last ≡ t → ⊥) → (tally t 0 0 0 ≡ tallyAt (tallyOf n) t) × Few (record { last = t; way = 0; stacks = 0; rams = 0 })
 unfolding tallyAt
-counts-anew n t e = (rw (ne-eqb (n .clock) t e), record { stacks = omega arith; rams = omega arith })
+counts-anew n t e = (rw (ne-eqb (n .last) t e), record { stacks = omega arith; rams = omega arith })

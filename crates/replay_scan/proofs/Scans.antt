@@ -58,7 +58,7 @@ pub record Going (log : Log) (s : List ℕ) (j at : ℕ) (n : Counts) (depth som
   pub quiet : some ≡ 0 → ramIn records ≡ 0
   pub rests : (c : Cells) → Rests j (started s c) records (built (tallyOf n) depth words c) 0
 
-pub going-start : (log : Log) (s : List ℕ) (j : ℕ) → Going log s j 0 (record { last = 0; clock = 0; way = 0; stacks = 0; rams = 0 }) 16 0 s
+pub going-start : (log : Log) (s : List ℕ) (j : ℕ) → Going log s j 0 (record { last = 0; way = 0; stacks = 0; rams = 0 }) 16 0 s
 unfolding ramIn
 going-start log s j = record { records = []; walk = Walk.none; fine = Fines.none; quiet = λ e. refl; rests = λ c. Rests.none }
 

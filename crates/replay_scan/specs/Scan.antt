@@ -8,7 +8,7 @@ use Rattle.machine.specs.Words.{p}
 use Rattle.machine.specs.Ram.{Cells}
 use Rattle.machine.specs.Records.{Record, other, timed, stack, ram, Parsed, ended, broken, found}
 use Rattle.replay_scan.specs.declared.scan.Scan.{Scan}
-use Rattle.replay.specs.Replay.{Tally, withRam, withTimed, Built, built, started, fields40, clock41, ram45, stackFault, stackTurn, Verdict, stops, wrong, goes, judged}
+use Rattle.replay.specs.Replay.{Tally, tallyAt, withRam, Built, built, started, fields40, clock41, ram45, stackFault, stackTurn, Verdict, stops, wrong, goes, judged}
 use Rattle.replay_scan.specs.Walk.{Log, parseAt, Walk}
 
 -- 45 of a RAM write
@@ -19,7 +19,7 @@ write45 n t (suc d) = ram45 n t
 -- readOf without what needs RAM's words, or comes behind that: 43 and 45 of a RAM read, 44 of a write, and the write itself
 unfoldable pub restOf : ℕ → Built → Record → Verdict
 restOf j b (other k s) = goes b
-restOf j b (timed k t s) = judged j t (clock41 (b .counts) t) (built (withTimed (b .counts) t) (b .depth) (b .words) (b .cells))
+restOf j b (timed k t s) = judged j t (clock41 (b .counts) t) (built (tallyAt (b .counts) t) (b .depth) (b .words) (b .cells))
 restOf j b (stack t q d v) = judged j t (firstOf (fields40 d q v) (firstOf (clock41 (b .counts) t) (stackFault b t q d v))) (stackTurn b t d v)
 restOf j b (ram t a v d) = judged j t (firstOf (fields40 d a v) (firstOf (clock41 (b .counts) t) (write45 (b .counts) t d))) (built (withRam (b .counts) t) (b .depth) (b .words) (b .cells))
 

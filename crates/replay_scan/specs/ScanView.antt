@@ -5,13 +5,13 @@ use mathlib.Core.Bool.{true, false}
 use mathlib.Core.List.{List, [], _∷_}
 use lib.ListN.{length}
 use lib.Dec.{eqb}
-use Rattle.choices.specs.Choice.{cond}
+use Rattle.choices.specs.Choice.{cond, firstOf}
 use Rattle.machine.specs.Ram.{Cells}
 use Rattle.machine.specs.Records.{Record, timed}
 use Rattle.replay_scan.specs.declared.record.Fields.{Fields}
 use Rattle.replay_scan.specs.declared.scan.Counts.{Counts}
 use Rattle.replay_scan.specs.declared.scan.Turn.{Turn}
-use Rattle.replay.specs.Replay.{Tally, tally, withStack, built, mostRecords, stack45, stackFault, stackTurn, Verdict, stops, wrong, goes}
+use Rattle.replay.specs.Replay.{Tally, tally, withStack, Built, built, fields40, clock41, mostRecords, stack45, stackFault, stackTurn, Verdict, stops, wrong, goes, judged}
 use Rattle.replay_scan.specs.Scan.{restOf, over45, Fine, ramIn}
 
 -- the depth's places are in the stack slice
@@ -20,7 +20,7 @@ pub record Places (s : List ℕ) (depth : ℕ) : Type 0 where
   pub high : depth ≤ length s + 16
 
 abbrev pub tallyOf : Counts → Tally
-tallyOf n = tally (n .last) (n .clock) (n .way) (n .stacks) (n .rams)
+tallyOf n = tally (n .last) (n .way) (n .stacks) (n .rams)
 
 -- no more at a clock than are allowed
 pub record Few (n : Counts) : Type 0 where
@@ -52,6 +52,14 @@ pub record Off (n d : ℕ) (r : Turn) : Type 0 where
   pub going : r .going ≡ false
   pub number : r .number ≡ n
   pub depth : r .depth ≡ d
+
+-- a stack or RAM record by its clock and its fields: it ends the scan, whatever the rest of its faults is, or it has no fault up to 41
+pub record OwnTurn (j : ℕ) (n : Counts) (depth : ℕ) (f : Fields) (r : Turn) : Type 0 where
+  pub early : r .going ≡ true → f .clock < j
+  pub fields : r .going ≡ true → fields40 (f .dir) (f .place) (f .value) ≡ 0
+  pub clock : r .going ≡ true → clock41 (tallyOf n) (f .clock) ≡ 0
+  pub ends : r .going ≡ false → (rest : ℕ) (x : Built) (s : List ℕ) (c : Cells) → judged j (f .clock) (firstOf (fields40 (f .dir) (f .place) (f .value)) (firstOf (clock41 (tallyOf n) (f .clock)) rest)) x ≡ verdictOf r s c
+  pub same : r .depth ≡ depth
 
 -- what a record x does, whatever the cells are
 pub record Turns (j : ℕ) (n : Counts) (depth : ℕ) (s : List ℕ) (x : Record) (after : List ℕ) (r : Turn) : Type 0 where

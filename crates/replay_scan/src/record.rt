@@ -72,25 +72,17 @@ fn get8(log: &[u8], at: usize) -> u64
 
 // ---- a record
 
-// Kinds 2 and 3 without a clock, in revision 1; 6 and 7 with one, in revision 2.
-fn plain_length(kind: u64) -> usize
-    ensures { λ r. ⌜ r ≡ cond (eqb kind 2) 772 (cond (eqb kind 3) 20 0) ⌝ }
+// Of a Tip5 or a U32 record, which are of these two kinds and lengths; 0 of any other.
+fn either_length(kind: u64, tip5: u64, long: usize, u32s: u64, short: usize) -> usize
+    ensures { λ r. ⌜ r ≡ cond (eqb kind tip5) long (cond (eqb kind u32s) short 0) ⌝ }
 {
-    match kind {
-        2 => 772,
-        3 => 20,
-        _ => 0,
+    if kind == tip5 {
+        return long;
     }
-}
-
-fn timed_length(kind: u64) -> usize
-    ensures { λ r. ⌜ r ≡ cond (eqb kind 6) 776 (cond (eqb kind 7) 24 0) ⌝ }
-{
-    match kind {
-        6 => 776,
-        7 => 24,
-        _ => 0,
+    if kind == u32s {
+        return short;
     }
+    0
 }
 
 fn length_of(revision: u64, kind: u64) -> usize
@@ -105,10 +97,11 @@ fn length_of(revision: u64, kind: u64) -> usize
     if kind == 5 {
         return 23;
     }
+    // kinds 6 and 7 have a clock, 2 and 3 have none
     if revision == 2 {
-        return timed_length(kind);
+        return either_length(kind, 6, 776, 7, 24);
     }
-    plain_length(kind)
+    either_length(kind, 2, 772, 3, 20)
 }
 
 fn none(state: u64) -> Head

@@ -8,7 +8,7 @@ ghost use Rattle.machine.specs.Records.{stack, ram, lengthOf};
 ghost use Rattle.replay.specs.Replay.{tallyAt, fields40, mostRecords};
 ghost use Rattle.replay_scan.specs.RecordView.{recordAt};
 ghost use Rattle.replay_scan.specs.Scan.{Scanned};
-ghost use Rattle.replay_scan.specs.ScanView.{Places, tallyOf, Few, StackFault, Movable, Moved, Off, Turns, Stays, Times};
+ghost use Rattle.replay_scan.specs.ScanView.{Places, tallyOf, Few, StackFault, Movable, Moved, Off, OwnTurn, Turns, Stays, Times};
 ghost use Rattle.replay_scan.specs.Walk.{logOf};
 use crate::record::Fields;
 use crate::record::head_at;
@@ -19,11 +19,9 @@ use choices::numbers::above;
 use choices::numbers::differ;
 use choices::numbers::first;
 
-// The last clock; and of the clock of the last stack or RAM record the direction of its stack records, and how many records are of the
-// stack and of RAM.
+// What has been read at the last clock: the direction of its stack records, and how many records are of the stack and of RAM.
 pub struct Counts {
     pub last: u64,
-    pub clock: u64,
     pub way: u64,
     pub stacks: u64,
     pub rams: u64,
@@ -49,17 +47,16 @@ pub struct Turn {
 
 // ---- what is counted
 
-// At a clock: counting starts anew where that is another one.
+// At a clock: counting starts anew where that is not the last one.
 fn counts_at(n: Counts, clock: u64) -> Counts
     requires { ⌜ Few n ⌝ }
     ensures { λ r. ⌜ (tallyOf r ≡ tallyAt (tallyOf n) clock) × Few r ⌝ }
 {
-    if n.clock == clock {
+    if n.last == clock {
         return n;
     }
     Counts {
-        last: n.last,
-        clock: clock,
+        last: clock,
         way: 0,
         stacks: 0,
         rams: 0,
@@ -98,22 +95,19 @@ fn write_over(dir: u64, over: u64) -> u64
     if dir == 0 { 0 } else { over }
 }
 
-// ---- faults
+// ---- faults: tests that return, where they can be, since choosing a number takes longer where there is none
 
-// 40: a direction above 1, or one of two numbers that is no word.
-fn fields_fault(f: Fields) -> u64
-    ensures { λ r. ⌜ r ≡ fields40 (f .dir) (f .place) (f .value) ⌝ }
+// 40 is not its fault: a direction of 0 or 1, and two numbers that are words.
+fn fields_fit(f: Fields) -> bool
+    ensures { λ r. ⌜ fields40 (f .dir) (f .place) (f .value) ≡ cond r 0 40 ⌝ }
 {
-    let place = above(f.place as usize, 18446744069414584320, 40);
-    let value = above(f.value as usize, 18446744069414584320, 40);
-    first(above(f.dir as usize, 1, 40), first(place, value))
-}
-
-// 40, or 41: clocks must not fall.
-fn own_fault(f: Fields, last: u64) -> u64
-    ensures { λ r. ⌜ r ≡ firstOf (fields40 (f .dir) (f .place) (f .value)) (aboveOf last (f .clock) 41) ⌝ }
-{
-    first(fields_fault(f), above(last as usize, f.clock as usize, 41))
+    if 1 < f.dir {
+        return false;
+    }
+    if 18446744069414584320 < f.place {
+        return false;
+    }
+    f.value <= 18446744069414584320
 }
 
 // 42 to 45 of a record of the op stack; `over` is its 45.
@@ -123,14 +117,22 @@ fn stack_fault(words: &[u64], depth: usize, f: Fields, over: u64) -> u64
 {
     let place = f.place as usize;
     if f.dir != 0 {
-        let room = above(depth - 15, words.len(), 44);
-        return first(differ(place, depth, 42), first(over, room));
+        if place != depth {
+            return 42;
+        }
+        if over != 0 {
+            return over;
+        }
+        return above(depth - 15, words.len(), 44);
     }
     if depth < 17 {
         return 42;
     }
+    if place != depth - 1 {
+        return 42;
+    }
     let read = differ(f.value as usize, words[depth - 17] as usize, 43);
-    first(differ(place, depth - 1, 42), first(read, over))
+    first(read, over)
 }
 
 // ---- turns
@@ -161,22 +163,43 @@ fn off(number: u64, counts: Counts, depth: usize) -> Turn
     }
 }
 
-fn stack_turn(words: &mut [u64], f: Fields, clock: u64, counts: Counts, depth: usize) -> Turn
-    requires { ⌜ Places (now words) depth × Few counts ⌝ }
-    ensures { λ r. ⌜ Turns clock counts depth (now (words .entry)) (stack (f .clock) (f .place) (f .dir) (f .value)) (now (words .exit)) r ⌝ }
+// By its own clock and fields a stack or RAM record ends the scan, with 40 or 41 or without a fault, or it goes on.
+fn own_turn(f: Fields, clock: u64, counts: Counts, depth: usize) -> Turn
+    ensures { λ r. ⌜ OwnTurn clock counts depth f r ⌝ }
 {
     if clock <= f.clock {
         return off(0, counts, depth);
     }
+    if !fields_fit(f) {
+        return off(40, counts, depth);
+    }
+    if f.clock < counts.last {
+        return off(41, counts, depth);
+    }
+    Turn {
+        going: true,
+        number: 0,
+        counts: counts,
+        depth: depth,
+        ram: 0,
+    }
+}
+
+fn stack_turn(words: &mut [u64], f: Fields, clock: u64, counts: Counts, depth: usize) -> Turn
+    requires { ⌜ Places (now words) depth × Few counts ⌝ }
+    ensures { λ r. ⌜ Turns clock counts depth (now (words .entry)) (stack (f .clock) (f .place) (f .dir) (f .value)) (now (words .exit)) r ⌝ }
+{
+    let own = own_turn(f, clock, counts, depth);
+    if !own.going {
+        return own;
+    }
     let n = counts_at(counts, f.clock);
-    let here = stack_fault(words, depth, f, stack_over(n, f.dir));
-    let fault = first(own_fault(f, counts.last), here);
+    let fault = stack_fault(words, depth, f, stack_over(n, f.dir));
     if fault != 0 {
         return off(fault, counts, depth);
     }
     let behind = Counts {
         last: f.clock,
-        clock: f.clock,
         way: f.dir,
         stacks: n.stacks + 1,
         rams: n.rams,
@@ -194,18 +217,18 @@ fn ram_turn(f: Fields, clock: u64, counts: Counts, depth: usize) -> Turn
     requires { ⌜ Few counts ⌝ }
     ensures { λ r. ⌜ Stays clock counts depth (ram (f .clock) (f .place) (f .value) (f .dir)) r ⌝ }
 {
-    if clock <= f.clock {
-        return off(0, counts, depth);
+    let own = own_turn(f, clock, counts, depth);
+    if !own.going {
+        return own;
     }
     let n = counts_at(counts, f.clock);
     let over = ram_over(n);
-    let fault = first(own_fault(f, counts.last), write_over(f.dir, over));
+    let fault = write_over(f.dir, over);
     if fault != 0 {
         return off(fault, counts, depth);
     }
     let behind = Counts {
         last: f.clock,
-        clock: f.clock,
         way: n.way,
         stacks: n.stacks,
         rams: n.rams + 1,
@@ -227,21 +250,13 @@ fn timed_turn(t: u64, clock: u64, counts: Counts, depth: usize) -> Turn
     if clock <= t {
         return off(0, counts, depth);
     }
-    let fault = above(counts.last as usize, t as usize, 41);
-    if fault != 0 {
-        return off(fault, counts, depth);
+    if t < counts.last {
+        return off(41, counts, depth);
     }
-    let behind = Counts {
-        last: t,
-        clock: counts.clock,
-        way: counts.way,
-        stacks: counts.stacks,
-        rams: counts.rams,
-    };
     Turn {
         going: true,
         number: 0,
-        counts: behind,
+        counts: counts_at(counts, t),
         depth: depth,
         ram: 0,
     }
@@ -289,7 +304,6 @@ pub fn scan_log(log: &[u8], revision: u64, words: &mut [u64], clock: u64) -> Sca
     let mut at = 0;
     let mut counts = Counts {
         last: 0,
-        clock: 0,
         way: 0,
         stacks: 0,
         rams: 0,

@@ -21,21 +21,21 @@ unfolding lengthOf
 returns-3 c =
     rw (ne-eqb _ 1 (c .before .before .if1 .left), ne-eqb _ 4 (c .before .if2 .left), eq-eqb _ 5 (c .if3 .taken))
 
-timed-length-requires : tie.Need-timed-length-requires
-timed-length-requires c κs = search needs
+either-length-requires : tie.Need-either-length-requires
+either-length-requires c κs = search needs
 
 returns-4 : tie.Need-returns-4
 unfolding lengthOf
 returns-4 c =
-    c .timed-length .ensures ∙ rw (ne-eqb _ 1 (c .before .before .before .before .if1 .left), ne-eqb _ 4 (c .before .before .before .if2 .left), ne-eqb _ 5 (c .before .before .if3 .left), eq-eqb _ 2 (c .before .if4 .taken))
+    c .either-length .ensures ∙ rw (ne-eqb _ 1 (c .before .before .before .before .if1 .left), ne-eqb _ 4 (c .before .before .before .if2 .left), ne-eqb _ 5 (c .before .before .if3 .left), eq-eqb _ 2 (c .before .if4 .taken))
 
-plain-length-requires : tie.Need-plain-length-requires
-plain-length-requires c κs = search needs
+either-length-requires-2 : tie.Need-either-length-requires-2
+either-length-requires-2 c κs = search needs
 
 returns-5 : tie.Need-returns-5
 unfolding lengthOf
 returns-5 c =
-    c .plain-length .ensures ∙ rw (ne-eqb _ 1 (c .before .before .before .before .if1 .left), ne-eqb _ 4 (c .before .before .before .if2 .left), ne-eqb _ 5 (c .before .before .if3 .left), ne-eqb _ 2 (c .before .if4 .left))
+    c .either-length2 .ensures ∙ rw (ne-eqb _ 1 (c .before .before .before .before .if1 .left), ne-eqb _ 4 (c .before .before .before .if2 .left), ne-eqb _ 5 (c .before .before .if3 .left), ne-eqb _ 2 (c .before .if4 .left))
 
 pub length-of-spec : {M : Type 1} → statement M
 length-of-spec =
@@ -44,7 +44,7 @@ length-of-spec =
     returns
     returns-2
     returns-3
-    timed-length-requires
+    either-length-requires
     returns-4
-    plain-length-requires
+    either-length-requires-2
     returns-5)
