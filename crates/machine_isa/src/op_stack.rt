@@ -5,6 +5,7 @@ ghost use lib.ListN.{length, take, replicate};
 ghost use Rattle.machine.specs.Machine.{topOf};
 ghost use Rattle.machine.specs.Apply.{appliedStack};
 ghost use Rattle.machine_isa.specs.Copied.{copied};
+use tip5::words::copy;
 
 // The top sixteen words, bottom first: ST i is the word at 15 - i.
 pub fn top(stack: &[u64], depth: usize) -> [u64; 16]
@@ -13,24 +14,8 @@ pub fn top(stack: &[u64], depth: usize) -> [u64; 16]
 {
     let base = depth - 16;
     let mut w = [0u64; 16];
-    let mut i = 0;
-    while i < 16 {
-        w[i] = stack[base + i];
-        i += 1;
-    }
+    copy(&mut w, 0, &stack[base..], 16);
     w
-}
-
-// The n words from place `at` on become the first n of `words`.
-pub fn put_words(s: &mut [u64], at: usize, words: [u64; 16], n: usize)
-    requires { ⌜ (at + n ≤ length (now s)) × (n ≤ 16) ⌝ }
-    ensures { λ _. ⌜ now (s .exit) ≡ copied (now (s .entry)) at words n ⌝ }
-{
-    let mut i = 0;
-    while i < n {
-        s[at + i] = words[i];
-        i += 1;
-    }
 }
 
 // The n words from place `at` on become 0.
@@ -58,6 +43,6 @@ pub fn apply(stack: &mut [u64], depth: usize, pops: usize, words: [u64; 16], cou
     ensures { λ _. ⌜ now (stack .exit) ≡ appliedStack (now (stack .entry)) depth pops (take count words) ⌝ }
 {
     let base = depth - pops;
-    put_words(&mut stack[..], base, words, count);
+    copy(&mut stack[..], base, &words, count);
     clear(&mut stack[..], base + count, over(pops, count));
 }

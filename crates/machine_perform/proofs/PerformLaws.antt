@@ -7,7 +7,7 @@ use Prim.Native.Nat.{ℕ, zero, suc, _+_, _-_, _*_, _≤_, _<_, min}
 use native.Mathlib.Omega.{arith}
 use borrow.Author.Tests.{ltb-true, ltb-false}
 use lib.ListN.{length, take, getD, set}
-use lib.Seq.{take-all}
+use lib.Seq.{paste, take-all}
 use lib.Dec.{ltb}
 use Rattle.tip5.specs.declared.sponge.Sponge.{Sponge}
 use Rattle.machine.specs.declared.state.VMState.{VMState}
@@ -15,7 +15,6 @@ use Rattle.machine_effects.specs.declared.effect.Effect.{Effect as Arrays}
 use Rattle.machine_effects.specs.declared.effect.U32Call.{U32Call}
 use Rattle.machine_hashing.specs.declared.hashing.Hashed.{Hashed}
 use Rattle.choices.specs.Choice.{cond}
-use Rattle.machine_isa.specs.Copied.{copied}
 use Rattle.machine.specs.Ram.{Cells, cells, stored}
 use Rattle.machine_ram.specs.RamView.{Ordered, Room}
 use Rattle.machine.specs.Machine.{Memory, memory, Machine, ram}
@@ -111,7 +110,7 @@ pub performed-is : (s : VMState) (e : Arrays) (q : ℕ) (sponge : Sponge) (m : M
     origins ≡ jumpWords (m .origins) (s .jumps) (e .calls) (e .returns) (e .origin) →
     destinations ≡ jumpWords (m .destinations) (s .jumps) (e .calls) (e .returns) (e .target) →
     cells n addresses values ≡ touched (cells (s .cells) (m .addresses) (m .values)) (writesFrom (e .addresses) (e .values) (e .reads) (e .writes)) →
-    output ≡ copied (m .output) (s .outputs) (e .output) outs →
+    output ≡ paste (m .output) (s .outputs) (e .output) outs →
     r ≡ movedTo s e q sponge n →
     Performed s e q sponge m r (memory stack origins destinations addresses values output)
 unfolding effectOf

@@ -1,8 +1,7 @@
 // What an effect makes of the machine: each slice in its own function, and the registers last.
 ghost use mathlib.Core.Path.{_≡_};
-ghost use Prim.Native.Nat.{_+_, _≤_};
-ghost use lib.ListN.{length, set};
-ghost use Rattle.machine_isa.specs.Copied.{copied};
+ghost use Prim.Native.Nat.{_≤_};
+ghost use lib.ListN.{set};
 ghost use Rattle.machine.specs.Ram.{cells};
 ghost use Rattle.machine.specs.Lent.{memoryAt, memoryIn, memoryOut};
 ghost use Rattle.machine_effects.specs.EffectView.{writesFrom};
@@ -16,6 +15,7 @@ use machine_isa::op_stack::apply;
 use machine_isa::op_stack::over;
 use machine_ram::near;
 use tip5::sponge::Sponge;
+use tip5::words::copy;
 
 // Stores a word; a place that the slice does not have is left alone.
 fn store(s: &mut [u64], at: usize, word: u64)
@@ -64,18 +64,6 @@ fn write_all(
         i += 1;
     }
     used
-}
-
-// The n words from place `at` on become the first n of `words`.
-fn put_out(s: &mut [u64], at: usize, words: [u64; 5], n: usize)
-    requires { ⌜ (at + n ≤ length (now s)) × (n ≤ 5) ⌝ }
-    ensures { λ _. ⌜ now (s .exit) ≡ copied (now (s .entry)) at words n ⌝ }
-{
-    let mut i = 0;
-    while i < n {
-        s[at + i] = words[i];
-        i += 1;
-    }
 }
 
 // The registers: only pointer and sponge do not follow from the effect's arrays.
@@ -132,7 +120,7 @@ pub fn perform(
     let writes = effect.writes;
     let used = write_all(addresses, values, state.cells, at, held, reads, writes);
     let out = effect.output;
-    put_out(output, state.outputs, out, least(effect.outputs, 5));
+    copy(output, state.outputs, &out, least(effect.outputs, 5));
     moved(state, effect, pointer, sponge, used)
 }
 
