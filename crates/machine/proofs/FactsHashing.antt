@@ -5,23 +5,22 @@ use Prim.Native.Nat.{ℕ, zero, suc, _+_, _*_, _<_}
 use native.Mathlib.Omega.{arith}
 use lib.ListN.{length, replicate, length-append, length-drop, length-replicate}
 use lib.Dec.{eqb, lit<}
-use Rattle.field.specs.Base.{p, addP}
+use Rattle.field.specs.Base.{p}
 use Rattle.field.proofs.Ring.{below}
 use Rattle.tip5.specs.declared.sponge.Sponge.{Sponge}
 use Rattle.tip5.specs.Permutation.{traceOf}
 use Rattle.machine.specs.Words.{Words, none, more}
-use Rattle.machine.specs.Ram.{Cells}
 use Rattle.machine.specs.Machine.{Machine, st, top, ram}
-use Rattle.machine.specs.Effect.{Call}
 use Rattle.machine.specs.Memory.{wordsUp, readsUp}
 use Rattle.machine.specs.Hashing.{lastState, fromTop, reversed, fixedLength, hashed, hashOf, sponged, spongeInitOf, overwritten, absorbed, spongeAbsorbOf, absorbedMem, spongeAbsorbMemOf, squeezed, spongeSqueezeOf, assertFrom, assertVectorOf}
 use Rattle.machine.specs.Apply.{spongeAfter}
 use Rattle.machine.specs.Sound.{SoundSponge, Sound, Honest}
 use Rattle.machine.proofs.Words.{words-getD, words-drop, words-append, words-zeros}
-use Rattle.machine.proofs.Seen.{sees, from-top-length, from-top-words, reversed-length, reversed-words, words-up-length, words-up-words, reads-up-honest}
+use Rattle.machine.proofs.Seen.{sees, from-top-length, from-top-words, reversed-length, reversed-words, words-by-length, words-by-words, reads-by-honest}
 use Rattle.machine.proofs.Traces.{trace-length, trace-words}
 use Rattle.machine.proofs.Acts.{Acts, acting, refusing, acts-cond, acts-sponge}
-use Rattle.machine.proofs.Does.{Weights, weighed, Does, records, puts-does, sponges}
+use Rattle.machine.proofs.Does.{Weights, Does, records, puts-does, sponges}
+use Rattle.machine.proofs.FactsMemory.{reads-by-sizes}
 
 -- a trace: six states of words
 pub record Traced (t : List ℕ) : Type 0 where
@@ -43,11 +42,6 @@ fixed-traced ten h b = traced (fixedLength ten) (simp length-append (omega arith
 overwritten-traced : (s : Sponge) (ten : List ℕ) → SoundSponge s → length ten ≡ 10 → Words ten → Traced (traceOf (overwritten s ten))
 overwritten-traced s ten k h b =
     traced (overwritten s ten) (simp (length-append, length-drop) (omega (arith, k .sixteen))) (words-append b (words-drop 10 (k .words)))
-
-pub reads-up-sizes : (per : Weights) (c : Cells) (a n : ℕ) (cs : List Call) → weighed per (readsUp c a n ++ cs) ≡ per .ofRam * n + weighed per cs
-unfolding readsUp
-reads-up-sizes per c a zero cs = omega arith
-reads-up-sizes per c a (suc n) cs = rw (reads-up-sizes per c (addP a 1) n cs) (omega arith)
 
 module _ (per : Weights) (m : Machine) (s : Sound m) (here : m .state .pointer < length (m .code .opcodes)) where
   sponged-sound : (t : List ℕ) → Traced t → SoundSponge (spongeAfter (m .state .sponge) (sponged t))
@@ -88,8 +82,8 @@ module _ (per : Weights) (m : Machine) (s : Sound m) (here : m .state .pointer <
   absorbed-mem-does ten a t l w h =
       sponges per m s here 5 0 0
       (words-append (reversed-words 4 w) (more (below _) none))
-      (reads-up-honest (ram m) (s .cells) a 10 l (Honest.traces (h .six) Honest.none))
-      (reads-up-sizes per (ram m) a 10 _)
+      (reads-by-honest 1 (ram m) (s .cells) a 10 l (Honest.traces (h .six) Honest.none))
+      (reads-by-sizes per 1 (ram m) a 10 _)
       (sponged-sound t h)
       (omega arith)
       (absorbed-mem-change ten _)
@@ -100,8 +94,8 @@ module _ (per : Weights) (m : Machine) (s : Sound m) (here : m .state .pointer <
       acts-sponge (m .state .sponge)
       (acting
       (absorbed-mem-does (wordsUp (ram m) (st (top m) 0) 10) (st (top m) 0) _ (words-getD 15 (sees m s))
-      (words-up-words (ram m) (s .cells) (st (top m) 0) 10)
-      (overwritten-traced (m .state .sponge) (wordsUp (ram m) (st (top m) 0) 10) (s .sponge) (words-up-length (ram m) (st (top m) 0) 10) (words-up-words (ram m) (s .cells) (st (top m) 0) 10))))
+      (words-by-words 1 (ram m) (s .cells) (st (top m) 0) 10)
+      (overwritten-traced (m .state .sponge) (wordsUp (ram m) (st (top m) 0) 10) (s .sponge) (words-by-length 1 (ram m) (st (top m) 0) 10) (words-by-words 1 (ram m) (s .cells) (st (top m) 0) 10))))
 
   squeezed-does : (t : List ℕ) → Traced t → Does per m 10 0 (per .ofTip5 + 0) (squeezed (m .state .sponge) t)
   unfolding squeezed

@@ -23,11 +23,12 @@ use Rattle.machine.specs.ManyInOne.{siblings, merkleTrace, parent, merkl
 use Rattle.machine.specs.Sound.{Sound, Honest, HonestJump}
 use Rattle.machine.proofs.Words.{words-getD, words-take, words-drop, words-append}
 use Rattle.machine.proofs.RamLaws.{held-word}
-use Rattle.machine.proofs.Seen.{sees, from-top-length, from-top-words, reversed-length, reversed-words, words-up-length, words-up-words, reads-up-honest}
+use Rattle.machine.proofs.Seen.{sees, from-top-length, from-top-words, reversed-length, reversed-words, words-by-length, words-by-words, reads-by-honest}
 use Rattle.machine.proofs.Acts.{Acts, acting, acts-unless, acts-u32}
 use Rattle.machine.proofs.Does.{Weights, accessSizes, Does, onward-word, records}
 use Rattle.machine.proofs.FactsArithmetic.{extension-words}
-use Rattle.machine.proofs.FactsHashing.{Traced, fixed-traced, reads-up-sizes}
+use Rattle.machine.proofs.FactsMemory.{reads-by-sizes}
+use Rattle.machine.proofs.FactsHashing.{Traced, fixed-traced}
 
 siblings-length : (k : ℕ) (a b : List ℕ) → length a ≡ 5 → length b ≡ 5 → length (siblings k a b) ≡ 10
 unfolding siblings
@@ -97,8 +98,8 @@ module _ (per : Weights) (m : Machine) (s : Sound m) (here : m .state .pointer <
   merkle-stepped-mem-does t h =
       records per m s here 8 0 0
       (more (below _) (more (low 6) (parent-words t h)))
-      (Honest.traces (h .six) (Honest.u32s (rw append-nil at (reads-up-honest (ram m) (s .cells) (st (top m) 7) 5 (low 7) Honest.none))))
-      (ap (λ (z : ℕ). per .ofTip5 + (per .ofU32 + z)) (rw append-nil at (reads-up-sizes per (ram m) (st (top m) 7) 5 [])))
+      (Honest.traces (h .six) (Honest.u32s (rw append-nil at (reads-by-honest 1 (ram m) (s .cells) (st (top m) 7) 5 (low 7) Honest.none))))
+      (ap (λ (z : ℕ). per .ofTip5 + (per .ofU32 + z)) (rw append-nil at (reads-by-sizes per 1 (ram m) (st (top m) 7) 5 [])))
       (omega arith)
       (rw (reversed-length (lastState t) 5))
 
@@ -108,7 +109,7 @@ module _ (per : Weights) (m : Machine) (s : Sound m) (here : m .state .pointer <
       acts-u32 (st (top m) 5)
       (λ _. acting
       (merkle-stepped-mem-does _
-      (merkle-traced (wordsUp (ram m) (st (top m) 7) 5) (words-up-length (ram m) (st (top m) 7) 5) (words-up-words (ram m) (s .cells) (st (top m) 7) 5))))
+      (merkle-traced (wordsUp (ram m) (st (top m) 7) 5) (words-by-length 1 (ram m) (st (top m) 7) 5) (words-by-words 1 (ram m) (s .cells) (st (top m) 7) 5))))
 
   -- ---- dot products
 

@@ -3,13 +3,13 @@ use mathlib.Core.Path.{_≡_, refl}
 use mathlib.Core.List.{List, _++_}
 use Prim.Native.Nat.{ℕ, zero, suc, _+_, _-_, _<_}
 use lib.ListN.{length}
-use Rattle.field.specs.Base.{p, addP, subP}
+use Rattle.field.specs.Base.{p, addP}
 use Rattle.field.proofs.Ring.{below}
 use Rattle.machine.specs.Words.{Words, none, more}
 use Rattle.machine.specs.Ram.{Cells, stored}
 use Rattle.machine.specs.Machine.{Machine, st, top}
 use Rattle.machine.specs.Effect.{Call}
-use Rattle.machine.specs.Memory.{wordsDown, wordsUp, readsDown, readsUp, writesUp}
+use Rattle.machine.specs.Memory.{wordsBy, readsBy, writesUp}
 use Rattle.machine.specs.Hashing.{fromTop, reversed}
 use Rattle.machine.specs.Sound.{SoundCells, Sound, Honest}
 use Rattle.machine.proofs.Words.{words-getD}
@@ -46,36 +46,21 @@ reversed-words (suc n) b = more (words-getD n b) (reversed-words n b)
 
 -- ---- RAM
 
-module _ (c : Cells) (s : SoundCells c) where
-  pub words-up-words : (a n : ℕ) → Words (wordsUp c a n)
-  unfolding wordsUp
-  words-up-words a zero = none
-  words-up-words a (suc n) = more (held-word c a (s .values)) (words-up-words (addP a 1) n)
+module _ (d : ℕ) (c : Cells) (s : SoundCells c) where
+  pub words-by-words : (a n : ℕ) → Words (wordsBy d c a n)
+  unfolding wordsBy
+  words-by-words a zero = none
+  words-by-words a (suc n) = more (held-word c a (s .values)) (words-by-words (addP a d) n)
 
-  pub words-down-words : (a n : ℕ) → Words (wordsDown c a n)
-  unfolding wordsDown
-  words-down-words a zero = none
-  words-down-words a (suc n) = more (held-word c a (s .values)) (words-down-words (subP a 1) n)
+  pub reads-by-honest : {cs : List Call} (a n : ℕ) → a < p → Honest c cs → Honest c (readsBy d c a n ++ cs)
+  unfolding readsBy
+  reads-by-honest a zero h k = k
+  reads-by-honest a (suc n) h k = Honest.reads h (held-word c a (s .values)) refl (reads-by-honest (addP a d) n (below _) k)
 
-  pub reads-up-honest : {cs : List Call} (a n : ℕ) → a < p → Honest c cs → Honest c (readsUp c a n ++ cs)
-  unfolding readsUp
-  reads-up-honest a zero h k = k
-  reads-up-honest a (suc n) h k = Honest.reads h (held-word c a (s .values)) refl (reads-up-honest (addP a 1) n (below _) k)
-
-  pub reads-down-honest : (a n : ℕ) → a < p → Honest c (readsDown c a n)
-  unfolding readsDown
-  reads-down-honest a zero h = Honest.none
-  reads-down-honest a (suc n) h = Honest.reads h (held-word c a (s .values)) refl (reads-down-honest (subP a 1) n (below _))
-
-pub words-up-length : (c : Cells) (a n : ℕ) → length (wordsUp c a n) ≡ n
-unfolding wordsUp
-words-up-length c a zero = refl
-words-up-length c a (suc n) = rw (words-up-length c (addP a 1) n)
-
-pub words-down-length : (c : Cells) (a n : ℕ) → length (wordsDown c a n) ≡ n
-unfolding wordsDown
-words-down-length c a zero = refl
-words-down-length c a (suc n) = rw (words-down-length c (subP a 1) n)
+pub words-by-length : (d : ℕ) (c : Cells) (a n : ℕ) → length (wordsBy d c a n) ≡ n
+unfolding wordsBy
+words-by-length d c a zero = refl
+words-by-length d c a (suc n) = rw (words-by-length d c (addP a d) n)
 
 pub writes-up-honest : {w : List ℕ} (c : Cells) (i a n : ℕ) → Words w → a < p → Honest c (writesUp w i a n)
 unfolding writesUp

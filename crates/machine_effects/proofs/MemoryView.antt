@@ -5,16 +5,16 @@ use Prim.Native.Nat.{ℕ, zero, suc, _+_, _-_, _*_, _%_, _≤_, _<_}
 use native.Mathlib.Nat.{mod-add-mod}
 use native.Mathlib.Numerals.{add-one}
 use native.Mathlib.Omega.{arith}
-use lib.ListN.{length, take, getD, set}
+use lib.ListN.{length, take, getD, set, length-set}
 use lib.Seq.{getD-set-same, getD-set-other, take-suc-set}
 use Rattle.field.specs.Base.{p, addP, subP}
-use Rattle.field.proofs.Remainder.{strip, same-by}
-use Rattle.field.proofs.Ring.{sub-strip}
+use Rattle.field.proofs.Remainder.{same-by}
+use Rattle.field.proofs.Ring.{below, sub-strip}
 use Rattle.machine.specs.Ram.{Cells, held}
-use Rattle.machine.specs.Machine.{st}
 use Rattle.machine.specs.Effect.{Call, ramRead, ramWrite}
-use Rattle.machine_effects.specs.EffectView.{accessesFrom}
-use Rattle.machine.specs.Memory.{wordsUp, wordsDown, readsUp, readsDown, writesUp}
+use Rattle.machine_effects.specs.EffectView.{accessesFrom, readsFrom}
+use Rattle.machine_effects.specs.MemoryView.{ReadBy}
+use Rattle.machine.specs.Memory.{wordsBy, readsBy, down, writesUp}
 
 -- one access more, at the end
 access-more : (f : ℕ → ℕ → Call) (a v : List ℕ) (x y k n : ℕ) → k + n < length a → k + n < length v →
@@ -41,34 +41,6 @@ words-turn l x i rest all h e = rw (add-one i, take-suc-set l i x h, append-asso
 left-one : (n i : ℕ) → i < n → n - i ≡ suc (n - (i + 1))
 left-one n i h = omega arith
 
--- ---- upward and downward
-
-module _ (c : Cells) (x n i : ℕ) (h : i < n) where
-  pub words-up : wordsUp c x (n - i) ≡ held c x ∷ wordsUp c (addP x 1) (n - (i + 1))
-  unfolding wordsUp
-  words-up = rw (left-one n i h)
-
-  pub reads-up : readsUp c x (n - i) ≡ ramRead x (held c x) ∷ readsUp c (addP x 1) (n - (i + 1))
-  unfolding readsUp
-  reads-up = rw (left-one n i h)
-
-  pub words-down : wordsDown c x (n - i) ≡ held c x ∷ wordsDown c (subP x 1) (n - (i + 1))
-  unfolding wordsDown
-  words-down = rw (left-one n i h)
-
-  pub reads-down : readsDown c x (n - i) ≡ ramRead x (held c x) ∷ readsDown c (subP x 1) (n - (i + 1))
-  unfolding readsDown
-  reads-down = rw (left-one n i h)
-
--- the end: nothing is left
-pub up-none : (c : Cells) (x n i : ℕ) → n ≤ i → (wordsUp c x (n - i) ≡ []) × (readsUp c x (n - i) ≡ [])
-unfolding wordsUp readsUp
-up-none c x n i h = let z : n - i ≡ 0 = omega arith in (rw z, rw z)
-
-pub down-none : (c : Cells) (x n i : ℕ) → n ≤ i → (wordsDown c x (n - i) ≡ []) × (readsDown c x (n - i) ≡ [])
-unfolding wordsDown readsDown
-down-none c x n i h = let z : n - i ≡ 0 = omega arith in (rw z, rw z)
-
 pub done : {A : Type 0} (f : ℕ → List A) (i n : ℕ) {rest all : List A} → i ≡ n → rest ≡ [] → f i ++ rest ≡ all → f n ≡ all
 done f i n {rest} {all} e z h = rw (← e) (sym (append-nil (f i)) ∙ (rw z at h))
 
@@ -79,20 +51,74 @@ start f a v rest = refl
 
 -- ---- the address after so many
 
-pub up-next : (a i : ℕ) {x y : ℕ} → x ≡ addP a i → y ≡ addP x 1 → y ≡ addP a (i + 1)
-up-next a i {x} {y} e f = f ∙ ap (λ (z : ℕ). addP z 1) e ∙ mod-add-mod (a + i) p 1 ∙ ap (λ (z : ℕ). z % p) (omega arith)
+pub by-next : (d a i : ℕ) {x y : ℕ} → x ≡ addP a (i * d) → y ≡ addP x d → y ≡ addP a ((i + 1) * d)
+by-next d a i {x} {y} e f = f ∙ ap (λ (z : ℕ). addP z d) e ∙ mod-add-mod (a + i * d) p d ∙ ap (λ (z : ℕ). z % p) (omega arith)
 
-pub up-first : (a : ℕ) → a < p → a ≡ addP a 0
-up-first a h = omega arith
+pub by-first : (d a : ℕ) → a < p → a ≡ addP a (0 * d)
+by-first d a h = omega arith
 
-down-by : (a i : ℕ) → subP (subP a i) 1 ≡ subP a (i + 1)
-down-by a i = simp (strip, sub-strip) (same-by p _ _ 0 0 (omega arith))
+pub by-down : (a n : ℕ) → addP a (n * down) ≡ subP a n
+by-down a n = simp sub-strip (same-by p _ _ 0 0 (omega arith))
 
-pub down-next : (a i : ℕ) {x y : ℕ} → x ≡ subP a i → y ≡ subP x 1 → y ≡ subP a (i + 1)
-down-next a i {x} {y} e f = f ∙ ap (λ (z : ℕ). subP z 1) e ∙ down-by a i
+-- ---- reads: the first i of those at a, a + d, .. are in three lists, the others are from x on
 
-pub down-first : (a : ℕ) → a < p → a ≡ subP a 0
-down-first a h = omega arith
+pub record Reading (d : ℕ) (c : Cells) (a n : ℕ) (at kept words : List ℕ) (x i : ℕ) : Type 0 where
+  pub few : i ≤ n
+  pub ten : length at ≡ 10
+  pub ten2 : length kept ≡ 10
+  pub sixteen : length words ≡ 16
+  pub word : x < p
+  pub next : (k : ℕ) → k ≡ i * d → x ≡ addP a k
+  pub reads : readsFrom at kept 0 i ++ readsBy d c x (n - i) ≡ readsBy d c a n
+  pub worded : take i words ++ wordsBy d c x (n - i) ≡ wordsBy d c a n
+
+pub reading-start : (d : ℕ) (c : Cells) (a n : ℕ) {at kept words : List ℕ} → a < p → length at ≡ 10 → length kept ≡ 10 → length words ≡ 16 → Reading d c a n at kept words a 0
+reading-start d c a n w h l m =
+    let e : n - 0 ≡ n = omega arith in
+    record {
+      few = omega arith;
+      ten = h;
+      ten2 = l;
+      sixteen = m;
+      word = w;
+      next = λ k q. by-first d a w ∙ ap (addP a) (sym q);
+      reads = rw e (start ramRead _ _ _);
+      worded = rw e;
+    }
+
+module _ {d : ℕ} {c : Cells} {a n : ℕ} {at kept words : List ℕ} {x i : ℕ} (r : Reading d c a n at kept words x i) where
+  words-next : i < n → wordsBy d c x (n - i) ≡ held c x ∷ wordsBy d c (addP x d) (n - (i + 1))
+  unfolding wordsBy
+  words-next h = rw (left-one n i h)
+
+  reads-next : i < n → readsBy d c x (n - i) ≡ ramRead x (held c x) ∷ readsBy d c (addP x d) (n - (i + 1))
+  unfolding readsBy
+  reads-next h = rw (left-one n i h)
+
+  pub reading-turn : {v y : ℕ} → i < n → n ≤ 10 → v ≡ held c x → y ≡ addP x d → Reading d c a n (set at i x) (set kept i v) (set words i v) y (i + 1)
+  reading-turn {v} {y} h f e g =
+      record {
+        few = omega arith;
+        ten = simp length-set (r .ten);
+        ten2 = simp length-set (r .ten2);
+        sixteen = simp length-set (r .sixteen);
+        word = rw g (below _);
+        next = λ k q. by-next d a i (r .next _ refl) g ∙ ap (addP a) (sym q);
+        reads = accesses-turn ramRead at kept x v i _ _ (omega (arith, r .ten)) (omega (arith, r .ten2)) (rw (reads-next h, ← e, ← g) at (r .reads));
+        worded = words-turn words v i _ _ (omega (arith, r .sixteen)) (rw (words-next h, ← e, ← g) at (r .worded));
+      }
+
+  pub reading-end : n ≤ i → ReadBy d c a n (record { addresses = at; values = kept; words = words; next = x })
+  unfolding wordsBy readsBy
+  reading-end h =
+      let e : i ≡ n = omega (arith, r .few) in
+      let z : n - i ≡ 0 = omega arith in
+      record {
+        reads = done (λ (j : ℕ). readsFrom at kept 0 j) i n e (rw z) (r .reads);
+        words = done (λ (j : ℕ). take j words) i n e (rw z) (r .worded);
+        next = λ k q. r .next k (q ∙ ap (λ (j : ℕ). j * d) (sym e));
+        sixteen = r .sixteen;
+      }
 
 -- ---- writes: the value i places on is ST (i + 1)
 

@@ -1,13 +1,13 @@
 -- `machine_effects::memory::read_mem` meets its contract. Assumes nothing.
 use borrow.Author.Needs.{needs}
-use mathlib.Core.Path.{_≡_}
+use mathlib.Core.Path.{_≡_, refl, _∙_}
 use mathlib.Core.List.{List, [], _++_, append-nil}
 use Prim.Native.Nat.{ℕ}
 use native.Mathlib.Omega.{arith}
 use Rattle.machine.specs.Effect.{Call, acts, recording}
 use Rattle.machine_effects.specs.EffectView.{accessesFrom}
 use Rattle.machine.specs.Memory.{readMemOf}
-use Rattle.machine_effects.proofs.MemoryView.{words-end}
+use Rattle.machine_effects.proofs.MemoryView.{by-down, words-end}
 use Rattle.machine_effects.proofs.memory.read_mem.Statement.{statement}
 use Rattle.machine_effects.proofs.memory.read_mem.Tie as tie
 
@@ -43,7 +43,7 @@ returns c =
     rw (
       c .puts-ram .ensures,
       words-end (k .read-down .result .words) (k .read-down .result .next) (a .n) (omega arith) (k .read-down .ensures .words),
-      k .read-down .ensures .next,
+      k .read-down .ensures .next _ refl ∙ by-down _ (a .n),
     )
     (reads-only _ (k .read-down .ensures .reads))
 

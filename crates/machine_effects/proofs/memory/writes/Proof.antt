@@ -2,14 +2,14 @@
 use borrow.Author.Needs.{needs}
 use mathlib.Core.Path.{_≡_, ap, _∙_}
 use mathlib.Core.List.{_++_}
-use Prim.Native.Nat.{ℕ, _+_, _-_, _≤_}
+use Prim.Native.Nat.{ℕ, _+_, _*_, _-_, _≤_}
 use native.Mathlib.Omega.{arith}
 use lib.ListN.{length, length-set}
 use Rattle.field.specs.Base.{addP}
 use Rattle.machine.specs.Effect.{ramWrite}
 use Rattle.machine_effects.specs.EffectView.{writesFrom}
 use Rattle.machine.specs.Memory.{writesUp}
-use Rattle.machine_effects.proofs.MemoryView.{accesses-turn, writes-up, writes-none, done, start, up-next, up-first}
+use Rattle.machine_effects.proofs.MemoryView.{accesses-turn, writes-up, writes-none, done, start, by-next, by-first}
 use Rattle.machine_effects.proofs.memory.writes.Statement.{statement}
 use Rattle.machine_effects.proofs.memory.writes.Tie as tie
 
@@ -18,7 +18,7 @@ Inv-loop start n w at₀ held₀ x₀ i₀ at held x i =
     (i ≤ n)
     × (length at ≡ 10)
     × (length held ≡ 10)
-    × (x ≡ addP start i)
+    × (x ≡ addP start (i * 1))
     × (writesFrom at held 0 i ++ writesUp w (i + 1) x (n - i) ≡ writesUp w 1 start n)
 
 abbrev μ-loop : tie.MeasureT-loop
@@ -28,7 +28,7 @@ loop-holds : tie.Need-loop-holds Inv-loop μ-loop
 loop-holds c =
     let a = c .args in
     let e : a .n - 0 ≡ a .n = omega arith in
-    (omega arith, search needs, search needs, up-first (a .start) (c .pre .0), rw e (start ramWrite _ _ _))
+    (omega arith, search needs, search needs, by-first 1 (a .start) (c .pre .0), rw e (start ramWrite _ _ _))
 
 mul-at : tie.Need-mul-at Inv-loop μ-loop
 mul-at c = search needs
@@ -71,7 +71,7 @@ loop-again c =
       omega arith,
       simp length-set (q .1),
       simp length-set (q .2),
-      up-next (a .start) (l .i) (q .3) (c .add .ensures),
+      by-next 1 (a .start) (l .i) (q .3) (c .add .ensures),
       accesses-turn ramWrite (l .at) (l .held) (l .x) _ (l .i) _ _ (omega arith) (omega arith) r,
     )
 
@@ -80,9 +80,10 @@ returns c =
     let l = c .before .loop in
     let a = c .before .before .args in
     let e : l .i ≡ a .n = omega arith in
+    let f : l .i * 1 ≡ a .n = omega arith in
     record {
       writes = done (λ (i : ℕ). writesFrom (l .at) (l .held) 0 i) (l .i) (a .n) e (writes-none (a .t1) (l .i + 1) (l .x) (a .n) (l .i) (c .loop-test .left)) (l .inv .4);
-      next = l .inv .3 ∙ ap (λ (i : ℕ). addP (a .start) i) e;
+      next = l .inv .3 ∙ ap (λ (i : ℕ). addP (a .start) i) f;
     }
 
 pub writes-spec : {M : Type 1} → statement M

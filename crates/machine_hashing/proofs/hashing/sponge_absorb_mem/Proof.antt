@@ -1,4 +1,5 @@
 -- `machine_hashing::hashing::sponge_absorb_mem` meets its contract. Assumes nothing.
+use mathlib.Core.Path.{refl}
 use Rattle.machine.specs.Refusal.{refusalOf}
 use Rattle.machine.specs.Hashing.{absorbedMem, spongeAbsorbMemOf}
 use Rattle.machine_hashing.proofs.HashedLaws.{reversed-front}
@@ -41,7 +42,7 @@ returns c =
       reversed-front (r .read-up .result .words) 4 10 (omega arith),
       r .read-up .ensures .words,
       r .read-up .ensures .reads,
-      r .read-up .ensures .next,
+      r .read-up .ensures .next 10 refl,
       r .before .if1 .taken,
     )
 

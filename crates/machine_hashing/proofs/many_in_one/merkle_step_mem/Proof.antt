@@ -1,4 +1,5 @@
 -- `machine_hashing::many_in_one::merkle_step_mem` meets its contract. Assumes nothing.
+use mathlib.Core.Path.{refl}
 use Prim.Native.Nat.{_^_}
 use borrow.Author.Tests.{le-ltb}
 use Rattle.machine.specs.Refusal.{refusalOf}
@@ -34,7 +35,7 @@ returns-2 : tie.Need-returns-2
 unfolding merkleStepMemOf merkleSteppedMem
 returns-2 c =
     let r = c .before .before .before in
-    rw (c .stepped-mem .ensures, c .before .merkle-trace .ensures, r .read-up .ensures .words, r .read-up .ensures .reads, r .read-up .ensures .next, within _ (r .before .if1 .left))
+    rw (c .stepped-mem .ensures, c .before .merkle-trace .ensures, r .read-up .ensures .words, r .read-up .ensures .reads, r .read-up .ensures .next 5 refl, within _ (r .before .if1 .left))
 
 pub merkle-step-mem-spec : {M : Type 1} → statement M
 merkle-step-mem-spec =
