@@ -194,32 +194,33 @@ fn element_at(addresses: &[u64], values: &[u64], count: usize, a: u64) -> XField
     }
 }
 
+// n reads, and what is put on: z, and the next addresses.
+fn put_dot(z: XFieldElement, r: u64, l: u64, n: usize, at: [u64; 10], held: [u64; 10]) -> Decided
+    ensures { λ d. ⌜ decisionOf d ≡ acts (recording (readsFrom at held 0 n) 5 (wordsX z ++ (r ∷ l ∷ Nil))) ⌝ }
+{
+    let words = [z.c2, z.c1, z.c0, r, l, 0, 0, 0, 0, 0, 0, 0, 0, 0, 0, 0];
+    effect::puts_ram(5, 5, words, n, 0, at, held)
+}
+
 // The reads of two extension words in turn, and what is put on: z, and both addresses up by three.
 fn put_xx(l: u64, r: u64, x: XFieldElement, y: XFieldElement, z: XFieldElement) -> Decided
     requires { ⌜ (l < p) × (r < p) ⌝ }
     ensures { λ d. ⌜ decisionOf d ≡ acts (recording (ramRead l (x .c0) ∷ ramRead r (y .c0) ∷ ramRead (addP l 1) (x .c1) ∷ ramRead (addP r 1) (y .c1) ∷ ramRead (addP l 2) (x .c2) ∷ ramRead (addP r 2) (y .c2) ∷ Nil) 5 (wordsX z ++ (addP r 3 ∷ addP l 3 ∷ Nil))) ⌝ }
 {
-    let mut at = [0u64; 10];
-    at[0] = l;
-    at[1] = r;
-    at[2] = base::add(l, 1);
-    at[3] = base::add(r, 1);
-    at[4] = base::add(l, 2);
-    at[5] = base::add(r, 2);
-    let mut held = [0u64; 10];
-    held[0] = x.c0;
-    held[1] = y.c0;
-    held[2] = x.c1;
-    held[3] = y.c1;
-    held[4] = x.c2;
-    held[5] = y.c2;
-    let mut words = [0u64; 16];
-    words[0] = z.c2;
-    words[1] = z.c1;
-    words[2] = z.c0;
-    words[3] = base::add(r, 3);
-    words[4] = base::add(l, 3);
-    effect::puts_ram(5, 5, words, 6, 0, at, held)
+    let at = [
+        l,
+        r,
+        base::add(l, 1),
+        base::add(r, 1),
+        base::add(l, 2),
+        base::add(r, 2),
+        0,
+        0,
+        0,
+        0,
+    ];
+    let held = [x.c0, y.c0, x.c1, y.c1, x.c2, y.c2, 0, 0, 0, 0];
+    put_dot(z, base::add(r, 3), base::add(l, 3), 6, at, held)
 }
 
 pub fn xx_dot_step(addresses: &[u64], values: &[u64], count: usize, w: [u64; 16]) -> Decided
@@ -244,23 +245,9 @@ fn put_xb(l: u64, r: u64, b: u64, x: XFieldElement, z: XFieldElement) -> Decided
     requires { ⌜ (l < p) × (r < p) ⌝ }
     ensures { λ d. ⌜ decisionOf d ≡ acts (recording (ramRead l b ∷ ramRead r (x .c0) ∷ ramRead (addP r 1) (x .c1) ∷ ramRead (addP r 2) (x .c2) ∷ Nil) 5 (wordsX z ++ (addP r 3 ∷ addP l 1 ∷ Nil))) ⌝ }
 {
-    let mut at = [0u64; 10];
-    at[0] = l;
-    at[1] = r;
-    at[2] = base::add(r, 1);
-    at[3] = base::add(r, 2);
-    let mut held = [0u64; 10];
-    held[0] = b;
-    held[1] = x.c0;
-    held[2] = x.c1;
-    held[3] = x.c2;
-    let mut words = [0u64; 16];
-    words[0] = z.c2;
-    words[1] = z.c1;
-    words[2] = z.c0;
-    words[3] = base::add(r, 3);
-    words[4] = base::add(l, 1);
-    effect::puts_ram(5, 5, words, 4, 0, at, held)
+    let at = [l, r, base::add(r, 1), base::add(r, 2), 0, 0, 0, 0, 0, 0];
+    let held = [b, x.c0, x.c1, x.c2, 0, 0, 0, 0, 0, 0];
+    put_dot(z, base::add(r, 3), base::add(l, 1), 4, at, held)
 }
 
 pub fn xb_dot_step(addresses: &[u64], values: &[u64], count: usize, w: [u64; 16]) -> Decided
