@@ -2,10 +2,10 @@
 use mathlib.Core.Path.{_≡_, refl, sym, ap, _∙_}
 use mathlib.Core.Bool.{Bool, true, false}
 use mathlib.Core.List.{List, [], _∷_, _++_, append-assoc, append-nil}
-use Prim.Native.Nat.{ℕ, suc, _+_, _-_, _*_, _≤_, _<_}
+use Prim.Native.Nat.{ℕ, _+_, _-_, _*_, _≤_, _<_}
 use native.Mathlib.Omega.{arith}
 use borrow.Author.Tests.{lt-ltb, le-ltb, eq-eqb, ne-eqb}
-use lib.ListN.{length, getD, take, drop, length-append, length-drop}
+use lib.ListN.{length, take, drop, length-append, length-drop}
 use lib.Seq.{take-at, drop-at}
 use lib.Dec.{eqb, ltb}
 use Rattle.choices.specs.Choice.{cond}
@@ -62,15 +62,6 @@ pub log-append : (v : ℕ) (rs ss : List Record) → logBytes v (rs ++ ss) ≡ l
 unfolding logBytes
 log-append v [] ss = refl
 log-append v (r ∷ rs) ss = rw (log-append v rs ss) (sym (append-assoc (recordBytes v r) (logBytes v rs) (logBytes v ss)))
-
--- the op-stack records of a step, one at a time
-pub growing-bytes : (v t : ℕ) (s : List ℕ) (q n : ℕ) → logBytes v (growing t s q (suc n)) ≡ logBytes v (growing t s q n) ++ recordBytes v (stack t (q + n) 1 (getD s (q + n - 16) 0))
-unfolding growing logBytes
-growing-bytes v t s q n = log-append v (growing t s q n) _ ∙ ap (λ (u : List ℕ). logBytes v (growing t s q n) ++ u) (append-nil _)
-
-pub shrinking-bytes : (v t : ℕ) (s : List ℕ) (q n : ℕ) → logBytes v (shrinking t s q (suc n)) ≡ logBytes v (shrinking t s q n) ++ recordBytes v (stack t (q - 1 - n) 0 (getD s (q - 1 - n - 16) 0))
-unfolding shrinking logBytes
-shrinking-bytes v t s q n = log-append v (shrinking t s q n) _ ∙ ap (λ (u : List ℕ). logBytes v (shrinking t s q n) ++ u) (append-nil _)
 
 -- a step that grows only writes, one that shrinks only reads
 pub stack-grows : (t : ℕ) (s s2 : List ℕ) (d d2 : ℕ) → d ≤ d2 → stackRecords t s s2 d d2 ≡ growing t s2 d (d2 - d)

@@ -6,10 +6,10 @@ use Prim.Native.Nat.{ℕ, zero, suc, zero-le, _+_, _-_, _*_, _/_, _%_, _≤_, _<
 use native.Mathlib.Numerals.{add-one}
 use native.Mathlib.Nat.{add-zero}
 use native.Mathlib.Omega.{arith}
-use borrow.Author.Tests.{eq-eqb, ne-eqb}
+use borrow.Author.Tests.{ltb-true, ltb-false, eq-eqb, ne-eqb}
 use lib.ListN.{length, take, drop, getD, set, length-append, length-take, length-drop, take-append-drop, drop-of-length-le}
 use lib.Seq.{sets-eq, drop-drop, take-at, drop-at, take-all, take-suc, getD-take}
-use lib.Dec.{eqb}
+use lib.Dec.{eqb, ltb}
 use Rattle.choices.specs.Choice.{cond}
 use Rattle.machine_effects.specs.declared.effect.Effect.{Effect as Arrays}
 use Rattle.machine_effects.specs.declared.effect.U32Call.{U32Call}
@@ -23,7 +23,7 @@ use Rattle.machine.specs.Records.{Record, other, timed, stack, ram, lengthOf, r
 use Rattle.machine_log.specs.Logged.{logged, Wrote, WroteAny, FrontAny, headBytes, tip5Bytes, u32Bytes, tip5Record, u32Record, u32Records, accesses}
 use Rattle.machine.proofs.Bytes.{bytes-length}
 use Rattle.machine.proofs.OpStack.{applied-below}
-use Rattle.machine.proofs.Records.{words-bytes-length, log-append}
+use Rattle.machine.proofs.Records.{words-bytes-length, log-append, stack-grows, stack-shrinks}
 
 -- ---- bytes at a place
 
@@ -241,13 +241,34 @@ any-more h w x g s = record { any = λ v. wrote-more h (w .any v) (x .any v) g s
 
 -- ---- one more of a run
 
-pub growing-more : (t : ℕ) (s : List ℕ) (q n : ℕ) → growing t s q n ++ (stack t (q + n) 1 (getD s (q + n - 16) 0) ∷ []) ≡ growing t s q (n + 1)
-unfolding growing
-growing-more t s q n = rw add-one
+-- the first n of the op stack's records from depth d to depth d2
+abbrev pub rowOf : ℕ → List ℕ → ℕ → ℕ → ℕ → List Record
+rowOf t s d d2 n = cond (ltb d d2) (growing t s d n) (shrinking t s d n)
 
-pub shrinking-more : (t : ℕ) (s : List ℕ) (q n : ℕ) → shrinking t s q n ++ (stack t (q - 1 - n) 0 (getD s (q - 1 - n - 16) 0) ∷ []) ≡ shrinking t s q (n + 1)
-unfolding shrinking
-shrinking-more t s q n = rw add-one
+pub row-none : (t : ℕ) (s : List ℕ) (d d2 : ℕ) → [] ≡ rowOf t s d d2 0
+unfolding growing shrinking
+row-none t s d d2 = go (ltb d d2)
+  where
+    go : (u : Bool) → [] ≡ cond u (growing t s d 0) (shrinking t s d 0)
+    go true = refl
+    go false = refl
+
+pub row-more : (t : ℕ) (s : List ℕ) (d d2 n : ℕ) {q dir : ℕ} → q ≡ cond (ltb d d2) (d + n) (d - 1 - n) → dir ≡ cond (ltb d d2) 1 0 →
+    rowOf t s d d2 n ++ (stack t q dir (getD s (q - 16) 0) ∷ []) ≡ rowOf t s d d2 (n + 1)
+unfolding growing shrinking
+row-more t s d d2 n {q} {dir} e f = rw (add-one n, e, f) (go (ltb d d2))
+  where
+    go : (u : Bool) → cond u (growing t s d n) (shrinking t s d n) ++ (stack t (cond u (d + n) (d - 1 - n)) (cond u 1 0) (getD s (cond u (d + n) (d - 1 - n) - 16) 0) ∷ [])
+        ≡ cond u (growing t s d (suc n)) (shrinking t s d (suc n))
+    go true = refl
+    go false = refl
+
+pub row-all : (t : ℕ) (s : List ℕ) (d d2 n : ℕ) → n ≡ d2 - d + (d - d2) → rowOf t s d d2 n ≡ stackRecords t s s d d2
+row-all t s d d2 n e = go (ltb d d2) refl
+  where
+    go : (u : Bool) → ltb d d2 ≡ u → cond u (growing t s d n) (shrinking t s d n) ≡ stackRecords t s s d d2
+    go true h = let l = ltb-true d d2 h in let k : n ≡ d2 - d = omega arith in rw k (sym (stack-grows t s s d d2 (omega arith)))
+    go false h = let l = ltb-false d d2 h in let k : n ≡ d - d2 = omega arith in rw k (sym (stack-shrinks t s s d d2 l))
 
 pub accesses-more : (t : ℕ) (a v : List ℕ) (dir i n : ℕ) → accesses t a v dir i n ++ (ram t (getD a (i + n) 0) (getD v (i + n) 0) dir ∷ []) ≡ accesses t a v dir i (n + 1)
 unfolding accesses
@@ -344,10 +365,6 @@ unfolding callRecords callRecord
 tip5-last v t o trace cs rs = rw (calls-append v t cs (tip5 o trace ∷ []))
 
 -- ---- the op stack's records
-
-pub stack-are : (t : ℕ) (s : List ℕ) (d d2 up down : ℕ) → up ≡ d2 - d → down ≡ d - d2 → growing t s d up ++ shrinking t s d down ≡ stackRecords t s s d d2
-unfolding stackRecords
-stack-are t s d d2 up down e f = rw (e, f)
 
 -- the words of a shrinking step's records lie below place k, where the stack before and the stack after are the same
 pub shrinking-same : (t : ℕ) (s s2 : List ℕ) (q n k : ℕ) → take k s ≡ take k s2 → 16 + n ≤ q → q - 16 ≤ k → shrinking t s q n ≡ shrinking t s2 q n

@@ -1,10 +1,12 @@
 // A step's records in the lent call buffer, each written into the part behind the last one.
 ghost use mathlib.Core.Path.{_≡_};
 ghost use mathlib.Core.List.{[] as Nil, _∷_, _++_};
-ghost use Prim.Native.Nat.{_+_, _*_, _%_, _≤_, _<_, min};
+ghost use Prim.Native.Nat.{_+_, _-_, _*_, _%_, _≤_, _<_, min};
+ghost use lib.Dec.{ltb};
 ghost use lib.ListN.{length};
+ghost use Rattle.choices.specs.Choice.{cond};
 ghost use Rattle.machine.specs.Bytes.{bytesOf};
-ghost use Rattle.machine.specs.Records.{other, stack as stacked, ram, recordBytes, wordsBytes, growing, shrinking, stackRecords, callRecords};
+ghost use Rattle.machine.specs.Records.{other, stack as stacked, ram, recordBytes, wordsBytes, stackRecords, callRecords};
 ghost use Rattle.machine.specs.Effect.{reset, tip5};
 ghost use Rattle.machine_effects.specs.EffectView.{callsOf};
 ghost use Rattle.machine_log.specs.Logged.{logged, Wrote, WroteAny, FrontAny, tip5Bytes, u32Bytes, accesses, callBytes, stackBytes, Countable, Deep, LogRoom, tip5Record, u32Record, u32Records};
@@ -222,36 +224,27 @@ fn log_accesses(
     next
 }
 
-// n writes from pointer q upward: the words that a growing step leaves below the top sixteen.
-fn log_growing(b: &mut [u8], at: usize, clock: u32, stack: &[u64], q: usize, n: usize) -> usize
-    requires { ⌜ (at + 25 * n ≤ length (now b)) × (16 ≤ q) × (q + n ≤ length (now stack) + 16) ⌝ }
-    ensures { λ r. ⌜ WroteAny (now (b .entry)) (now (b .exit)) at (growing clock (now (stack .entry)) q n) (25 * n) r ⌝ }
+// 1, a write, where the depth grows; else 0, a read.
+fn direction(depth: usize, after: usize) -> u8
+    ensures { λ r. ⌜ r ≡ cond (ltb depth after) 1 0 ⌝ }
 {
-    let mut next = at;
-    let mut i = 0;
-    while i < n {
-        next = log_stack(b, next, clock, (q + i) as u64, 1, stack[q + i - 16]);
-        i += 1;
-    }
-    next
+    if depth < after { 1 } else { 0 }
 }
 
-// n reads from pointer q - 1 downward: the words that a shrinking step brings into the top sixteen.
-fn log_shrinking(b: &mut [u8], at: usize, clock: u32, stack: &[u64], q: usize, n: usize) -> usize
-    requires { ⌜ (at + 25 * n ≤ length (now b)) × (16 + n ≤ q) × (q ≤ length (now stack) + 16) ⌝ }
-    ensures { λ r. ⌜ WroteAny (now (b .entry)) (now (b .exit)) at (shrinking clock (now (stack .entry)) q n) (25 * n) r ⌝ }
+// The pointer of record i: upward from the depth, or downward from below it.
+fn pointer(depth: usize, after: usize, i: usize) -> usize
+    requires { ⌜ i < after - depth + (depth - after) ⌝ }
+    ensures { λ r. ⌜ (r ≡ cond (ltb depth after) (depth + i) (depth - 1 - i)) × (min depth after ≤ r) × (r < depth + (after - depth)) ⌝ }
 {
-    let mut next = at;
-    let mut i = 0;
-    while i < n {
-        next = log_stack(b, next, clock, (q - 1 - i) as u64, 0, stack[q - 1 - i - 16]);
-        i += 1;
+    if depth < after {
+        depth + i
+    } else {
+        depth - 1 - i
     }
-    next
 }
 
-// The op-stack records from one depth to another. Both loops run, and at least one has no turn: so no test says which way
-// the depth went.
+// The op-stack records from one depth to another: the words that a growing step leaves below the top sixteen, or those that a shrinking step
+// brings into them.
 pub fn log_depth(
     b: &mut [u8],
     at: usize,
@@ -263,10 +256,16 @@ pub fn log_depth(
     requires { ⌜ (at + stackBytes depth after ≤ length (now b)) × Deep (now stack) depth after ⌝ }
     ensures { λ r. ⌜ WroteAny (now (b .entry)) (now (b .exit)) at (stackRecords clock (now (stack .entry)) (now (stack .entry)) depth after) (stackBytes depth after) r ⌝ }
 {
-    let up = over(after, depth);
-    let down = over(depth, after);
-    let next = log_growing(b, at, clock, stack, depth, up);
-    log_shrinking(b, next, clock, stack, depth, down)
+    let n = over(after, depth) + over(depth, after);
+    let dir = direction(depth, after);
+    let mut next = at;
+    let mut i = 0;
+    while i < n {
+        let q = pointer(depth, after, i);
+        next = log_stack(b, next, clock, q as u64, dir, stack[q - 16]);
+        i += 1;
+    }
+    next
 }
 
 // An effect's own calls: of the U32 table, then reads, then writes.
