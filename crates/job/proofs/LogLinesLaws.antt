@@ -18,12 +18,6 @@ use Rattle.job.specs.LogLines.{lineOf, linesOf, onRecord, linesIn, logLi
 use Rattle.job.proofs.FrameLaws.{Whole, size-whole, part-at}
 use Rattle.job.proofs.ListingLaws.{put-as, put-more, put-none}
 
--- ---- a record's length
-
-pub length-known : (k : ℕ) → (k ≡ 1 → ⊥) → (k ≡ 2 → ⊥) → (k ≡ 3 → ⊥) → (k ≡ 4 → ⊥) → (k ≡ 5 → ⊥) → 0 ≡ lengthOf 1 k
-unfolding lengthOf
-length-known k a b c d e = rw (ne-eqb k 1 a, ne-eqb k 2 b, ne-eqb k 3 c, ne-eqb k 4 d, ne-eqb k 5 e)
-
 -- a whole record is parsed
 parse-whole : (b : List ℕ) → Whole (lengthOf 1) b → parse 1 b ≡ found (recordOf (kindIn b) (take (sizeBy (lengthOf 1) b) b)) (drop (sizeBy (lengthOf 1) b) b)
 unfolding parse framed kindIn

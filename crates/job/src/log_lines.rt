@@ -10,20 +10,7 @@ use crate::frame::kind_at;
 use crate::frame::number_at;
 use crate::frame::whole_at;
 use crate::listing::stack_line;
-
-// In a log of revision 1.
-fn length_of(kind: u64) -> usize
-    ensures { λ r. ⌜ (r ≡ lengthOf 1 kind) × (r < 65536) ⌝ }
-{
-    match kind {
-        1 => 2,
-        2 => 772,
-        3 => 20,
-        4 => 23,
-        5 => 23,
-        _ => 0,
-    }
-}
+use machine_log::kinds::length_of;
 
 // How many bytes the record at place `at` has; 0 where no whole one stands.
 pub fn record_length(log: &[u8], at: usize) -> usize
@@ -33,7 +20,7 @@ pub fn record_length(log: &[u8], at: usize) -> usize
     if log.len() - at < 4 {
         return 0;
     }
-    whole_at(log, at, length_of(kind_at(log, at)))
+    whole_at(log, at, length_of(1, kind_at(log, at)))
 }
 
 // The line of the record of kind 4 at place `at`, behind place `to`.

@@ -78,7 +78,7 @@ cond-small : (t : Bool) (a b n : ℕ) → a < n → b < n → cond t a b < n
 cond-small true a b n h k = h
 cond-small false a b n h k = k
 
-length-small : (v k : ℕ) → lengthOf v k < 65536
+pub length-small : (v k : ℕ) → lengthOf v k < 65536
 unfolding lengthOf
 length-small v k =
     cond-small (eqb k 1) 2 _ 65536 (omega arith)

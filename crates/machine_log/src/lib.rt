@@ -1,2 +1,3 @@
-// The records of a step, as bytes.
+// The records of a step, as bytes, and how long a record is.
 pub mod calls;
+pub mod kinds;

@@ -1,12 +1,11 @@
 // A record of a log, read where it stands.
 ghost use mathlib.Core.Path.{_≡_};
 ghost use Prim.Native.Nat.{_+_, _≤_, _<_};
-ghost use lib.Dec.{eqb};
 ghost use lib.ListN.{length, getD};
-ghost use Rattle.choices.specs.Choice.{cond};
 ghost use Rattle.machine.specs.Records.{lengthOf};
 ghost use Rattle.replay_scan.specs.RecordView.{Number, Framed, noHead, wholeHead, Headed, OfStack, OfRam, OfTimed};
 ghost use Rattle.replay_scan.specs.Walk.{logOf};
+use machine_log::kinds::length_of;
 
 // What stands at a place: 0 the end, 1 no whole record, 2 a record of this kind, of `size` bytes behind its length field.
 pub struct Head {
@@ -71,38 +70,6 @@ fn get8(log: &[u8], at: usize) -> u64
 }
 
 // ---- a record
-
-// Of a Tip5 or a U32 record, which are of these two kinds and lengths; 0 of any other.
-fn either_length(kind: u64, tip5: u64, long: usize, u32s: u64, short: usize) -> usize
-    ensures { λ r. ⌜ r ≡ cond (eqb kind tip5) long (cond (eqb kind u32s) short 0) ⌝ }
-{
-    if kind == tip5 {
-        return long;
-    }
-    if kind == u32s {
-        return short;
-    }
-    0
-}
-
-fn length_of(revision: u64, kind: u64) -> usize
-    ensures { λ r. ⌜ r ≡ lengthOf revision kind ⌝ }
-{
-    if kind == 1 {
-        return 2;
-    }
-    if kind == 4 {
-        return 23;
-    }
-    if kind == 5 {
-        return 23;
-    }
-    // kinds 6 and 7 have a clock, 2 and 3 have none
-    if revision == 2 {
-        return either_length(kind, 6, 776, 7, 24);
-    }
-    either_length(kind, 2, 772, 3, 20)
-}
 
 fn none(state: u64) -> Head
     ensures { λ r. ⌜ r ≡ noHead state ⌝ }

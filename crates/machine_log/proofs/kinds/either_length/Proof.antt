@@ -1,7 +1,7 @@
--- `replay_scan::record::either_length` meets its contract. Assumes nothing.
+-- `machine_log::kinds::either_length` meets its contract. Assumes nothing.
 use borrow.Author.Tests.{eq-eqb, ne-eqb}
-use Rattle.replay_scan.proofs.record.either_length.Statement.{statement}
-use Rattle.replay_scan.proofs.record.either_length.Tie as tie
+use Rattle.machine_log.proofs.kinds.either_length.Statement.{statement}
+use Rattle.machine_log.proofs.kinds.either_length.Tie as tie
 
 returns : tie.Need-returns
 returns c =

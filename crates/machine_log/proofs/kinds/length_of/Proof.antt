@@ -1,10 +1,10 @@
--- `replay_scan::record::length_of` meets its contract. Assumes nothing.
+-- `machine_log::kinds::length_of` meets its contract. Assumes nothing.
 use borrow.Author.Tests.{eq-eqb, ne-eqb}
 use Rattle.machine.specs.Records.{lengthOf}
 use mathlib.Core.Path.{_∙_}
 use borrow.Author.Needs.{needs}
-use Rattle.replay_scan.proofs.record.length_of.Statement.{statement}
-use Rattle.replay_scan.proofs.record.length_of.Tie as tie
+use Rattle.machine_log.proofs.kinds.length_of.Statement.{statement}
+use Rattle.machine_log.proofs.kinds.length_of.Tie as tie
 
 returns : tie.Need-returns
 unfolding lengthOf
