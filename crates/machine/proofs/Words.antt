@@ -70,16 +70,16 @@ word-nil x h = go (ltb x p) refl
     go false e = absurd (omega (arith, h, word-not x (ltb-false x p e)))
 
 -- the test as the code makes it: above p - 1
-pub word-above : (x : ℕ) → aboveOf x 18446744069414584320 2 ≡ wordOf2 x
+pub word-above : (x : ℕ) → aboveOf x (p - 1) 2 ≡ wordOf2 x
 word-above x = go (ltb x p) refl
   where
-    go : (t : Bool) → ltb x p ≡ t → aboveOf x 18446744069414584320 2 ≡ wordOf2 x
+    go : (t : Bool) → ltb x p ≡ t → aboveOf x (p - 1) 2 ≡ wordOf2 x
     go true e =
         let l : x < p = ltb-true x p e in
-        above-not x 18446744069414584320 2 (omega arith) ∙ sym (word-fine x l)
+        above-not x (p - 1) 2 (omega arith) ∙ sym (word-fine x l)
     go false e =
         let l : p ≤ x = ltb-false x p e in
-        above-is x 18446744069414584320 2 (omega arith) ∙ sym (word-not x l)
+        above-is x (p - 1) 2 (omega arith) ∙ sym (word-not x l)
 
 pub words-at : (s : List ℕ) (n i : ℕ) → i < n → wordsOf s n ≡ 0 → getD s i 0 < p
 unfolding wordsOf

@@ -8,6 +8,7 @@ use native.Mathlib.Omega.{arith}
 use borrow.Author.Tests.{eqb-true, eqb-false}
 use lib.ListN.{length, getD}
 use lib.Dec.{eqb}
+use Rattle.field.specs.Base.{p}
 use Rattle.choices.specs.Choice.{firstOf, aboveOf}
 use Rattle.machine.specs.Words.{wordOf2, wordsOf, zerosFrom}
 use Rattle.machine.specs.Instruction.{Decoded, known, unknown, decode}
@@ -70,11 +71,11 @@ words-turn : (s : List ℕ) (n : ℕ) → wordsOf s (suc n) ≡ firstOf (wordsOf
 unfolding wordsOf
 words-turn s n = refl
 
-pub words-more : (s : List ℕ) (i : ℕ) → wordsOf s i ≡ 0 → getD s i 0 ≤ 18446744069414584320 → wordsOf s (i + 1) ≡ 0
-words-more s i h l = scan-more (wordsOf s) _ (words-turn s) i h (word-fine (getD s i 0) (omega arith))
+pub words-more : (s : List ℕ) (i : ℕ) → wordsOf s i ≡ 0 → getD s i 0 < p → wordsOf s (i + 1) ≡ 0
+words-more s i h l = scan-more (wordsOf s) _ (words-turn s) i h (word-fine (getD s i 0) l)
 
-pub words-stop : (s : List ℕ) (i n : ℕ) → i < n → wordsOf s i ≡ 0 → 18446744069414584320 < getD s i 0 → wordsOf s n ≡ 2
-words-stop s i n m h l = scan-stop (wordsOf s) _ (words-turn s) i n 2 m (omega arith) h (word-not (getD s i 0) (omega arith))
+pub words-stop : (s : List ℕ) (i n : ℕ) → i < n → wordsOf s i ≡ 0 → p ≤ getD s i 0 → wordsOf s n ≡ 2
+words-stop s i n m h l = scan-stop (wordsOf s) _ (words-turn s) i n 2 m (omega arith) h (word-not (getD s i 0) l)
 
 pub words-end : (s : List ℕ) (i n : ℕ) → i ≤ n → n ≤ i → wordsOf s i ≡ 0 → 0 ≡ wordsOf s n
 words-end s i n l m h =

@@ -14,6 +14,7 @@ use choices::numbers::above;
 use choices::numbers::differ;
 use choices::numbers::first;
 use choices::numbers::least;
+use field::base::P;
 use machine::state::VMState;
 use machine_isa::instruction;
 use machine_ram::ram;
@@ -102,7 +103,7 @@ fn words_below(s: &[u64], n: usize) -> u64
 {
     let mut i = 0;
     while i < n {
-        if 18446744069414584320 < s[i] {
+        if P <= s[i] {
             return 2;
         }
         i += 1;
@@ -144,7 +145,7 @@ fn register_words(sponge: [u64; 16], pointer: u64) -> u64
 {
     first(
         words_below(&sponge, 16),
-        above(pointer as usize, 18446744069414584320, 2),
+        above(pointer as usize, P as usize - 1, 2),
     )
 }
 

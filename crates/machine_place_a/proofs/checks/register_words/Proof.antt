@@ -10,6 +10,9 @@ slice-aggregate-words-below c = search needs
 words-below-requires : tie.Need-words-below-requires
 words-below-requires c κs = search needs
 
+sub-above : tie.Need-sub-above
+sub-above c = search needs
+
 above-requires : tie.Need-above-requires
 above-requires c κs = search needs
 
@@ -25,6 +28,7 @@ register-words-spec =
     (tie.spec
     slice-aggregate-words-below
     words-below-requires
+    sub-above
     above-requires
     first-requires
     returns)
