@@ -23,9 +23,15 @@ wordsUp c a n = wordsBy 1 c a n
 abbrev pub readsUp : Cells → ℕ → ℕ → List Call
 readsUp c a n = readsBy 1 c a n
 
--- d of a, a - 1, ..
+-- at a, a - 1, ..: modulo p one less is p - 1 more
 abbrev pub down : ℕ
 down = p - 1
+
+abbrev pub wordsDown : Cells → ℕ → ℕ → List ℕ
+wordsDown c a n = wordsBy down c a n
+
+abbrev pub readsDown : Cells → ℕ → ℕ → List Call
+readsDown c a n = readsBy down c a n
 
 -- the writes of ST i, ST (i + 1), .. to a, a + 1, ..
 unfoldable pub writesUp : List ℕ → ℕ → ℕ → ℕ → List Call
@@ -34,7 +40,7 @@ writesUp w i a (suc n) = ramWrite a (st w i) ∷ writesUp w (i + 1) (addP a 1) n
 
 -- _ m becomes _ v1 .. vn (m - n)
 unfoldable pub readMemOf : Cells → List ℕ → ℕ → Decision
-readMemOf c w n = acts (recording (readsBy down c (st w 0) n) 1 (wordsBy down c (st w 0) n ++ (subP (st w 0) n ∷ [])))
+readMemOf c w n = acts (recording (readsDown c (st w 0) n) 1 (wordsDown c (st w 0) n ++ (subP (st w 0) n ∷ [])))
 
 -- _ vn .. v1 m becomes _ (m + n)
 unfoldable pub writeMemOf : List ℕ → ℕ → Decision

@@ -4,7 +4,7 @@ ghost use lib.Dec.{eqb};
 ghost use Rattle.choices.specs.Choice.{cond};
 ghost use Rattle.machine.specs.Records.{lengthOf};
 
-// One length for a kind, another for a second one.
+// Of a Tip5 or a U32 record, which are of these two kinds and lengths; 0 of any other.
 fn either_length(kind: u64, tip5: u64, long: usize, u32s: u64, short: usize) -> usize
     ensures { λ r. ⌜ r ≡ cond (eqb kind tip5) long (cond (eqb kind u32s) short 0) ⌝ }
 {
