@@ -7,10 +7,12 @@ mod print;
 
 use exports::calls::triton_helper_variables;
 use exports::calls::triton_open;
+use exports::calls::triton_processor_row;
 use exports::calls::triton_replay;
 use exports::calls::triton_run;
 use exports::calls::triton_step;
 use exports::calls::triton_trace_execution;
+use exports::calls::triton_trace_rows;
 
 //  0: read_io 3; divine 2; push 20; write_mem 2; pop 1; call 14
 // 12: call 0
@@ -199,6 +201,55 @@ fn trace_execution(lent: Lent) -> Lent {
     }
 }
 
+// Nine steps, the sixth and the last one call. Prints the row of the seventh, merkle_step.
+fn trace_rows(lent: Lent) -> Lent {
+    let opcodes = OPCODES;
+    let arguments = ARGUMENTS;
+    let public = PUBLIC;
+    let secret = SECRET;
+    let digests = DIGESTS;
+    let mut registers = lent.registers;
+    let mut answer = lent.answer;
+    let mut op_stack = lent.op_stack;
+    let mut origins = lent.origins;
+    let mut destinations = lent.destinations;
+    let mut addresses = lent.addresses;
+    let mut values = lent.values;
+    let mut output = lent.output;
+    let mut log = [0u8; 4096];
+    let mut table = [0u64; 333];
+    let number = triton_trace_rows(
+        &mut registers,
+        &mut answer,
+        9,
+        &opcodes,
+        &arguments,
+        &public,
+        &secret,
+        &digests,
+        &mut op_stack,
+        &mut origins,
+        &mut destinations,
+        &mut addresses,
+        &mut values,
+        &mut output,
+        &mut log,
+        &mut table,
+    );
+    print::words(b"row", &table[222..259]);
+    Lent {
+        number: number,
+        registers: registers,
+        answer: answer,
+        op_stack: op_stack,
+        origins: origins,
+        destinations: destinations,
+        addresses: addresses,
+        values: values,
+        output: output,
+    }
+}
+
 // The helper variables of merkle_step.
 fn helper_variables(lent: Lent) {
     let opcodes = OPCODES;
@@ -230,6 +281,39 @@ fn helper_variables(lent: Lent) {
         &output,
     );
     print::answered(b"helper_variables", number, &helpers);
+}
+
+// The row of merkle_step.
+fn processor_row(lent: Lent) {
+    let opcodes = OPCODES;
+    let arguments = ARGUMENTS;
+    let public = PUBLIC;
+    let secret = SECRET;
+    let digests = DIGESTS;
+    let registers = lent.registers;
+    let op_stack = lent.op_stack;
+    let origins = lent.origins;
+    let destinations = lent.destinations;
+    let addresses = lent.addresses;
+    let values = lent.values;
+    let output = lent.output;
+    let mut row = [0u64; 37];
+    let number = triton_processor_row(
+        &registers,
+        &mut row,
+        &opcodes,
+        &arguments,
+        &public,
+        &secret,
+        &digests,
+        &op_stack,
+        &origins,
+        &destinations,
+        &addresses,
+        &values,
+        &output,
+    );
+    print::answered(b"processor_row", number, &row);
 }
 
 // Three steps.
@@ -351,7 +435,11 @@ fn main() {
     print_answer(b"open", opened);
     let traced = trace_execution(opened);
     print_answer(b"trace_execution", traced);
+    let rowed = trace_rows(opened);
+    print_answer(b"trace_rows", rowed);
+    print_stacks(rowed);
     helper_variables(traced);
+    processor_row(traced);
     let ran = run(traced);
     print_answer(b"run", ran);
     let stepped = step(ran);

@@ -1,17 +1,20 @@
 // The functions that C and Rust link: each is one call and no test, since all of them stand in one crate.
-ghost use Rattle.exports_calls.specs.HelperCall.{helped, helperCall};
+ghost use Rattle.exports_calls.specs.GivenCall.{helperCall, rowCall};
 ghost use Rattle.exports_calls.specs.OpenCall.{openCall};
 ghost use Rattle.exports_calls.specs.ReplayCall.{replayCall, replied};
-ghost use Rattle.exports_calls.specs.RunCall.{runCall, traceCall};
+ghost use Rattle.exports_calls.specs.RunCall.{runCall, traceCall, rowsCall};
 ghost use Rattle.exports_calls.specs.StepCall.{stepCall};
 ghost use Rattle.exports_calls.specs.ThinCall.{thinCall, thinly};
-ghost use Rattle.exports_words.specs.Calls.{interfaceVersion, called, recorded};
+ghost use Rattle.exports_words.specs.Calls.{interfaceVersion, called, recorded, tabled};
 ghost use Rattle.machine.specs.Ram.{cells as cellsOf};
+ghost use Rattle.machine.specs.Given.{given};
 ghost use Rattle.machine.specs.Lent.{codeIn, memoryIn, memoryOut};
 ghost use mathlib.Core.Path.{_≡_};
 use exports_calls::helper_variables::helper_call;
 use exports_calls::open::open_call;
+use exports_calls::processor_row::row_call;
 use exports_calls::replay_call::replay_call;
+use exports_calls::rows::rows_call;
 use exports_calls::run::run_call;
 use exports_calls::step::step_call;
 use exports_calls::thin::Registers;
@@ -243,6 +246,52 @@ pub extern "C" fn triton_trace_execution(
     )
 }
 
+// The same, and the rows of the steps are the first words of rows.
+#[no_mangle]
+pub extern "C" fn triton_trace_rows(
+    registers: &mut [u64],
+    answer: &mut [u64],
+    budget: u64,
+    opcodes: &[u64],
+    arguments: &[u64],
+    public: &[u64],
+    secret: &[u64],
+    digests: &[u64],
+    op_stack: &mut [u64],
+    origins: &mut [u64],
+    destinations: &mut [u64],
+    addresses: &mut [u64],
+    values: &mut [u64],
+    output: &mut [u64],
+    calls: &mut [u8],
+    rows: &mut [u64],
+) -> u64
+    ensures { λ r. ⌜ tabled (recorded (called r (now (registers .exit)) (now (answer .exit))
+        (memoryOut «op_stack» origins destinations addresses values output)) (now (calls .exit))) (now (rows .exit))
+        ≡ rowsCall budget (now (registers .entry)) (now (answer .entry))
+        (codeIn opcodes arguments public secret digests)
+        (memoryIn «op_stack» origins destinations addresses values output) (now (calls .entry)) (now (rows .entry)) ⌝ }
+{
+    rows_call(
+        registers,
+        answer,
+        budget,
+        opcodes,
+        arguments,
+        public,
+        secret,
+        digests,
+        op_stack,
+        origins,
+        destinations,
+        addresses,
+        values,
+        output,
+        calls,
+        rows,
+    )
+}
+
 // Refused, the helpers are zeros.
 #[no_mangle]
 pub extern "C" fn triton_helper_variables(
@@ -260,13 +309,51 @@ pub extern "C" fn triton_helper_variables(
     values: &[u64],
     output: &[u64],
 ) -> u64
-    ensures { λ r. ⌜ helped r (now (helpers .exit)) ≡ helperCall (now (registers .entry)) (now (helpers .entry))
+    ensures { λ r. ⌜ given r (now (helpers .exit)) ≡ helperCall (now (registers .entry)) (now (helpers .entry))
         (codeIn opcodes arguments public secret digests)
         (memoryIn «op_stack» origins destinations addresses values output) ⌝ }
 {
     helper_call(
         registers,
         helpers,
+        opcodes,
+        arguments,
+        public,
+        secret,
+        digests,
+        op_stack,
+        origins,
+        destinations,
+        addresses,
+        values,
+        output,
+    )
+}
+
+// Refused, the row is zeros.
+#[no_mangle]
+pub extern "C" fn triton_processor_row(
+    registers: &[u64],
+    row: &mut [u64],
+    opcodes: &[u64],
+    arguments: &[u64],
+    public: &[u64],
+    secret: &[u64],
+    digests: &[u64],
+    op_stack: &[u64],
+    origins: &[u64],
+    destinations: &[u64],
+    addresses: &[u64],
+    values: &[u64],
+    output: &[u64],
+) -> u64
+    ensures { λ r. ⌜ given r (now (row .exit)) ≡ rowCall (now (registers .entry)) (now (row .entry))
+        (codeIn opcodes arguments public secret digests)
+        (memoryIn «op_stack» origins destinations addresses values output) ⌝ }
+{
+    row_call(
+        registers,
+        row,
         opcodes,
         arguments,
         public,

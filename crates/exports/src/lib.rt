@@ -6,7 +6,9 @@
 // triton_step_registers(registers, answer, code, memory, calls)
 // triton_run(registers, answer, budget, code, memory)
 // triton_trace_execution(registers, answer, budget, code, memory, calls)
+// triton_trace_rows(registers, answer, budget, code, memory, calls, rows)
 // triton_helper_variables(registers, helpers, code, memory)
+// triton_processor_row(registers, row, code, memory)
 // triton_replay(rebuilt, log, revision, clock, cells, addresses, values, words)
 //
 // code is opcodes, arguments, public, secret, digests, and memory is op_stack, origins, destinations, addresses, values, output: a slice each.
@@ -26,12 +28,14 @@
 //    11 to 26 the sponge's words
 //    27 the log's revision, 1 or 2; any other word gives 4 by place A
 // answer, 7 words (exports_words, specs/Report.antt):
-//     0 how the call ended: 0 opened, taken or halted, 1 spent, 2 log full, 3 refused
+//     0 how the call ended: 0 opened, taken or halted, 1 spent, 2 log full, 3 refused, 4 table full: fewer words of rows left than a row has
 //     1 the refusal's number, 0 where the call is not refused
 //     2 to 4 the three words that the refusal carries
-//     5 how many steps succeeded: of step 1 or 0, of open 0
+//     5 how many steps succeeded: of step 1 or 0, of open 0; triton_trace_rows has written as many rows
 //     6 how many bytes of records were written
 // digest, 5 words. helpers, 6 words, zeros where the call is refused.
+// row, 37 words, zeros where the call is refused; rows, any number of words, a row behind the other (machine, specs/ProcessorRow.antt):
+//     0 CLK, 1 IP, 2 CI, 3 NIA, 4 to 10 IB0 to IB6, 11 JSP, 12 JSO, 13 JSD, 14 to 29 ST0 to ST15, 30 the op stack pointer, 31 to 36 HV0 to HV5
 // rebuilt, 3 words (exports_calls, specs/ReplayCall.antt): the number, the depth and how many cells are used, the last two 0 where the call is refused. log is
 // bytes; words is the stack slice, all 0 before the call.
 //

@@ -1,5 +1,5 @@
 -- The laws that the proofs cite.
-pub mod HelperCallLaws
+pub mod GivenCallLaws
 pub mod OpenCallLaws
 pub mod RefusedCalls
 pub mod WholeCalls

@@ -15,20 +15,24 @@ use Rattle.machine.specs.Decide.{decideOf}
 use Rattle.machine.specs.Step.{Stepped, stepOf}
 use Rattle.machine_log.proofs.Logged.{logged-none}
 use Rattle.machine.proofs.Step.{refused-buffer, lost-buffer}
-use Rattle.machine.proofs.Refused.{step-refuses, run-refuses, trace-refuses, open-refuses, helpers-refused}
+use Rattle.machine.proofs.Refused.{step-refuses, open-refuses}
+use Rattle.machine.proofs.Refused as G
+use Rattle.machine.proofs.Run.{call-refuses}
 use Rattle.replay.specs.Replay.{replayOf}
 use Rattle.replay.proofs.Refused as R
 use Rattle.machine.specs.Records.{logBytes}
-use Rattle.machine.specs.Path.{Path, stays, refused, logFrom}
-use Rattle.machine.specs.Run.{traceA}
+use Rattle.machine.specs.Path.{Path, stays, refused, unlogged, bytes, tabled as tabledIn, logFrom}
+use Rattle.machine.specs.Run.{traceA, rowsA}
+use Rattle.machine.specs.ProcessorRow.{rowsFrom}
+use Rattle.machine.specs.Given.{Given, given, givenOf}
 use Rattle.machine_perform.specs.AnswerView.{answeredBy, leftBy}
 use Rattle.exports_words.specs.Registers.{stateOf}
 use Rattle.exports_words.specs.Report.{report, answerOf, stepReport}
-use Rattle.exports_words.specs.Calls.{Called, called, recorded, fitsOf, misfitted, reported}
+use Rattle.exports_words.specs.Calls.{Called, called, recorded, tabled, fitsOf, misfitted, reported}
 use Rattle.exports_calls.specs.StepCall.{stepCall}
-use Rattle.exports_calls.specs.RunCall.{runGives, runCall, traceGives, traceCall}
+use Rattle.exports_calls.specs.RunCall.{runGives, runCall, traceGives, traceCall, rowsGives, rowsCall}
 use Rattle.exports_calls.specs.OpenCall.{openFitsOf, openGives, openCall}
-use Rattle.exports_calls.specs.HelperCall.{helped, noHelpers, helperCall}
+use Rattle.exports_calls.specs.GivenCall.{zeroed, givenCall}
 use Rattle.exports_calls.specs.ReplayCall.{replied, replayCall}
 use Rattle.exports_words.proofs.RegistersLaws.{registers-state}
 use Rattle.exports_words.proofs.CallsLaws.{fits-facts}
@@ -36,10 +40,6 @@ use Rattle.exports_words.proofs.CallsLaws.{fits-facts}
 -- what a call gives that is refused before a step
 abbrev pub refusedCall : List ℕ → Memory → Refusal → Called
 refusedCall w m r = called (r .number) w (answerOf (report 3 r 0 0)) m
-
-pub log-none : (m : Machine) → logBytes (m .state .revision) (logFrom decideOf m []) ≡ []
-unfolding logFrom logBytes
-log-none m = refl
 
 -- ---- slices that do not fit
 
@@ -56,17 +56,24 @@ module _ (w a : List ℕ) (c : Code) (m : Memory) (h : fitsOf w a 7 ≡ false) w
   unfolding traceCall
   trace-misfit budget b = rw h
 
+  pub rows-misfit : (budget : ℕ) (b t : List ℕ) → rowsCall budget w a c m b t ≡ tabled (recorded (misfitted w a m) b) t
+  unfolding rowsCall
+  rows-misfit budget b t = rw h
+
 pub open-misfit : (w a : List ℕ) (v : ℕ) (g : List ℕ) (n : ℕ) (c : Code) (m : Memory) → openFitsOf w a g ≡ false → openCall w a v g n c m ≡ misfitted w a m
 unfolding openCall
 open-misfit w a v g n c m h = rw h
 
-pub helper-misfit : (w v : List ℕ) (c : Code) (m : Memory) → fitsOf w v 6 ≡ false → helperCall w v c m ≡ helped 1 (noHelpers v)
-unfolding helperCall
-helper-misfit w v c m h = rw h
+pub given-misfit : (k : ℕ) (f : Machine → Given) (w v : List ℕ) (c : Code) (m : Memory) → fitsOf w v k ≡ false → givenCall k f w v c m ≡ given 1 (zeroed k v)
+unfolding givenCall
+given-misfit k f w v c m h = rw h
 
 -- ---- refused
 
 module _ (w a : List ℕ) (c : Code) (m : Memory) (h : fitsOf w a 7 ≡ true) where
+  abbrev from : Machine
+  from = machine (stateOf w) c m
+
   -- the words of the registers are those of the state that was read from them
   pub same : (r : Refusal) → reported (report 3 r 0 0) (stateOf w) m ≡ refusedCall w m r
   same r = ap (λ (x : List ℕ). called (r .number) x (answerOf (report 3 r 0 0)) m) (registers-state w (fits-facts w a 7 refl h .registers))
@@ -92,29 +99,37 @@ module _ (w a : List ℕ) (c : Code) (m : Memory) (h : fitsOf w a 7 ≡ true) wh
   pub step-refused : (b : List ℕ) → (stepA (machine (stateOf w) c m) b ≡ 0 → ⊥) → stepCall w a c m b ≡ recorded (refusedCall w m (plainly (stepA (machine (stateOf w) c m) b))) b
   step-refused b z = step-kept b _ (ap (λ (x : Stepped). x .outcome) (step-refuses decideOf (machine (stateOf w) c m) b z))
 
-  pub run-refused : (budget : ℕ) → (machineA (machine (stateOf w) c m) ≡ 0 → ⊥) → runCall budget w a c m ≡ refusedCall w m (plainly (machineA (machine (stateOf w) c m)))
+  pub run-refused : (budget : ℕ) → (machineA from ≡ 0 → ⊥) → runCall budget w a c m ≡ refusedCall w m (plainly (machineA from))
   unfolding runCall
-  run-refused budget z = rw h (ap (λ (p : Path). runGives p 0) (run-refuses decideOf budget (machine (stateOf w) c m) z) ∙ same (plainly (machineA (machine (stateOf w) c m))))
+  run-refused budget z = rw h (ap (λ (p : Path). runGives p 0) (call-refuses decideOf (machineA from) unlogged budget from z) ∙ same (plainly (machineA from)))
 
-  pub trace-refused : (budget : ℕ) (b : List ℕ) → (traceA (machine (stateOf w) c m) b ≡ 0 → ⊥) →
-      traceCall budget w a c m b ≡ recorded (refusedCall w m (plainly (traceA (machine (stateOf w) c m) b))) b
+  -- what a call gives that is refused at once: it has written neither records nor rows
+  pub trace-same : (b : List ℕ) (r : Refusal) → traceGives b from (stays (refused r) from) ≡ recorded (refusedCall w m r) b
+  unfolding logFrom logBytes
+  trace-same b r = λ d. recorded (same r d) (sym (logged-none b 0) d)
+
+  pub rows-same : (b t : List ℕ) (r : Refusal) → rowsGives b t from (stays (refused r) from) ≡ tabled (recorded (refusedCall w m r) b) t
+  unfolding rowsFrom
+  rows-same b t r = λ d. tabled (trace-same b r d) (sym (logged-none t 0) d)
+
+  pub trace-refused : (budget : ℕ) (b : List ℕ) → (traceA from b ≡ 0 → ⊥) → traceCall budget w a c m b ≡ recorded (refusedCall w m (plainly (traceA from b))) b
   unfolding traceCall
-  trace-refused budget b z =
-      let k = trace-refuses decideOf budget (machine (stateOf w) c m) b z in
-      rw h
-      (ap (λ (p : Path). traceGives b p (logBytes (stateOf w .revision) (logFrom decideOf (machine (stateOf w) c m) (p .machines)))) k
-      ∙ ap (traceGives b (stays (refused (plainly (traceA (machine (stateOf w) c m) b))) (machine (stateOf w) c m))) (log-none (machine (stateOf w) c m))
-      ∙ (λ d. recorded (same (plainly (traceA (machine (stateOf w) c m) b)) d) (sym (logged-none b 0) d)))
+  trace-refused budget b z = rw h (ap (traceGives b from) (call-refuses decideOf (traceA from b) (bytes (length b)) budget from z) ∙ trace-same b (plainly (traceA from b)))
+
+  pub rows-refused : (budget : ℕ) (b t : List ℕ) → (rowsA from b t ≡ 0 → ⊥) → rowsCall budget w a c m b t ≡ tabled (recorded (refusedCall w m (plainly (rowsA from b t))) b) t
+  unfolding rowsCall
+  rows-refused budget b t z = rw h (ap (rowsGives b t from) (call-refuses decideOf (rowsA from b t) (tabledIn (length b) (length t)) budget from z) ∙ rows-same b t (plainly (rowsA from b t)))
 
 pub open-refused : (w a : List ℕ) (v : ℕ) (g : List ℕ) (n : ℕ) (c : Code) (m : Memory) → openFitsOf w a g ≡ true → (openA v g c m n ≡ 0 → ⊥) →
     openCall w a v g n c m ≡ refusedCall w m (plainly (openA v g c m n))
 unfolding openCall
 open-refused w a v g n c m h z = rw h (ap (openGives w m) (open-refuses v g c m n z))
 
-pub helper-refused : (w v : List ℕ) (c : Code) (m : Memory) → fitsOf w v 6 ≡ true → (machineA (machine (stateOf w) c m) ≡ 0 → ⊥) →
-    helperCall w v c m ≡ helped (machineA (machine (stateOf w) c m)) (replicate 6 0)
-unfolding helperCall
-helper-refused w v c m h z = rw h (helpers-refused (machine (stateOf w) c m) z)
+-- helper variables, and the row
+pub given-refused : (k : ℕ) (f : Machine → List ℕ) (w v : List ℕ) (c : Code) (m : Memory) → fitsOf w v k ≡ true → (machineA (machine (stateOf w) c m) ≡ 0 → ⊥) →
+    givenCall k (λ x. givenOf x k (f x)) w v c m ≡ given (machineA (machine (stateOf w) c m)) (replicate k 0)
+unfolding givenCall
+given-refused k f w v c m h z = rw h (G.given-refused (machine (stateOf w) c m) k (f (machine (stateOf w) c m)) z)
 
 -- at any place: depth and cell count are 0, and the stack slice and the RAM slices stay
 pub replay-refused : (a log s : List ℕ) (v j : ℕ) (c : Cells) → length a ≡ 3 → (replayOf v log c s j .number ≡ 0 → ⊥) →

@@ -15,27 +15,28 @@ use Rattle.machine.specs.Decide.{decideOf}
 use Rattle.machine.specs.Apply.{Outcome, took, kept, lost, dropped}
 use Rattle.machine.specs.PlaceA.{machineA}
 use Rattle.machine.specs.Open.{openOf}
-use Rattle.machine.specs.Records.{logBytes}
+use Rattle.machine.specs.Lengths.{rowWords}
 use Rattle.machine.specs.Step.{Stepped, stepOf}
-use Rattle.machine.specs.Path.{Ending, halted, spent, full, refused, Path, stays, logFrom}
-use Rattle.machine.specs.Run.{runOf, traceExecutionOf}
-use Rattle.machine.specs.HelperVariables.{Helped, helperVariablesOf}
+use Rattle.machine.specs.Path.{the-log, the-table, Ending, halted, spent, full, refused, Path, stays}
+use Rattle.machine.specs.Run.{runOf, traceExecutionOf, traceRowsOf}
+use Rattle.machine.specs.Given.{Given, givenOf}
+use Rattle.machine.specs.HelperVariables.{helpersAt}
+use Rattle.machine.specs.ProcessorRow.{rowOf}
 use Rattle.machine.proofs.Drops.{AtSkiz}
 use Rattle.machine.proofs.Path.{RefusedAfter}
 use Rattle.machine.proofs.Whole as M
-use Rattle.machine_log.proofs.Logged.{logged-none}
 use Rattle.machine_perform.specs.AnswerView.{answeredBy}
-use Rattle.machine_vm.specs.RunView.{traceLog}
+use Rattle.machine_vm.specs.RunView.{pathLog}
 use Rattle.replay.specs.Replay.{replayOf}
 use Rattle.exports_words.specs.Registers.{stateOf}
 use Rattle.exports_words.specs.Report.{report, answerOf, stepReport, runReport}
-use Rattle.exports_words.specs.Calls.{Called, Recorded, recorded, fitsOf, misfitted, reported}
+use Rattle.exports_words.specs.Calls.{Called, Recorded, recorded, Tabled, tabled, fitsOf, misfitted, reported}
 use Rattle.exports_calls.specs.StepCall.{stepCall}
-use Rattle.exports_calls.specs.RunCall.{runGives, runCall, traceGives, traceCall}
+use Rattle.exports_calls.specs.RunCall.{runGives, runCall, traceGives, traceCall, rowsGives, rowsCall}
 use Rattle.exports_calls.specs.OpenCall.{openFitsOf, openGives, openCall}
-use Rattle.exports_calls.specs.HelperCall.{noHelpers, helperCall}
+use Rattle.exports_calls.specs.GivenCall.{zeroed, givenCall, helperCall, rowCall}
 use Rattle.exports_calls.specs.ReplayCall.{Replied, replied, replayCall}
-use Rattle.exports_calls.proofs.RefusedCalls.{refusedCall, log-none, same, step-misfit, run-misfit, trace-misfit, open-misfit, helper-misfit, step-kept, step-lost, replay-refused}
+use Rattle.exports_calls.proofs.RefusedCalls.{refusedCall, same, trace-same, rows-same, step-misfit, run-misfit, trace-misfit, rows-misfit, open-misfit, given-misfit, step-kept, step-lost, replay-refused}
 use Rattle.exports_calls.specs.declared.thin.Registers.{Registers}
 use Rattle.exports_calls.specs.ThinCall.{stateIn, Thin, thinly, told, thinGives, thinCall}
 use Rattle.exports_calls.proofs.ReplayCallLaws.{replay-misfits}
@@ -71,89 +72,85 @@ module _ (w a : List ℕ) (c : Code) (m : Memory) where
       go true h = turned-by b (stepOf from b) h refl (M.step-refused from b (λ x e. z (taken-number b x h e)))
       go false h = subst (StepTurned b) (sym (step-misfit w a c m h b)) misfit-said
 
-  -- ---- run and trace_execution
-
-  pub data RunTurned : Called → Type 0 where
-    misfit-said : RunTurned (misfitted w a m)
-    -- place A refuses: nothing is changed but the answer
-    unchanged : (r : Refusal) → RunTurned (refusedCall w m r)
-    -- the steps before are kept, and the refused one leaves what a refused step leaves
-    after-steps : (p : Path) (r : Refusal) → p .ending ≡ refused r → RefusedAfter decideOf (machine (stateOf w) c m) r p → RunTurned (runGives p 0)
-
-  unrefused-number : (p : Path) (n : ℕ) → ((r : Refusal) → p .ending ≡ refused r → ⊥) → runGives p n .number ≡ 0
-  unrefused-number p n h = go (p .ending) refl
-    where
-      go : (e : Ending) → p .ending ≡ e → runReport (p .ending) (length (p .machines)) n .number ≡ 0
-      go halted q = ap (λ (e : Ending). runReport e (length (p .machines)) n .number) q
-      go spent q = ap (λ (e : Ending). runReport e (length (p .machines)) n .number) q
-      go full q = ap (λ (e : Ending). runReport e (length (p .machines)) n .number) q
-      go (refused r) q = absurd (h r q)
-
-  run-turned : (p q : Path) (r : Refusal) → fitsOf w a 7 ≡ true → p ≡ q → p .ending ≡ refused r → M.RunRefused from r q → RunTurned (runGives p 0)
-  run-turned p _ r h e i M.at-once = subst RunTurned (sym (ap (λ (x : Path). runGives x 0) e ∙ same w a c m h r)) (unchanged r)
-  run-turned p q r h e i (M.after-steps l) = after-steps p r i (subst (RefusedAfter decideOf from r) (sym e) l)
+  -- ---- run, trace_execution and trace_rows
 
   -- where the number is not 0, the path ended refused
   refused-only : (p : Path) (n : ℕ) (A : Type 0) → (runGives p n .number ≡ 0 → ⊥) → ((r : Refusal) → p .ending ≡ refused r → A) → A
   refused-only p n A z k = go (p .ending) refl
     where
-      none : (e : Ending) → ((r : Refusal) → e ≡ refused r → ⊥) → p .ending ≡ e → ⊥
-      none e h q = z (unrefused-number p n (λ r i. h r (sym q ∙ i)))
+      number : Ending → ℕ
+      number e = runReport e (length (p .machines)) n .number
 
       go : (e : Ending) → p .ending ≡ e → A
-      go halted q = absurd (none halted (λ r i. let y : _≡_ {A = ℕ} 0 1 = cc in omega arith) q)
-      go spent q = absurd (none spent (λ r i. let y : _≡_ {A = ℕ} 0 1 = cc in omega arith) q)
-      go full q = absurd (none full (λ r i. let y : _≡_ {A = ℕ} 0 1 = cc in omega arith) q)
+      go halted q = absurd (z (ap number q))
+      go spent q = absurd (z (ap number q))
+      go (full the-log) q = absurd (z (ap number q))
+      go (full the-table) q = absurd (z (ap number q))
       go (refused r) q = k r q
+
+  -- what such a call gives: `say` of its path, `unfit` where the slices do not fit, `same` of a refusal that changes nothing
+  module _ {R : Type 0} (say : Path → R) (unfit : R) (same : Refusal → R) where
+    pub data Turned : R → Type 0 where
+      misfit-said : Turned unfit
+      -- place A refuses: nothing is changed but the answer
+      unchanged : (r : Refusal) → Turned (same r)
+      -- the steps before are kept, with their records and rows, and the refused one leaves what a refused step leaves
+      after-steps : (p : Path) (r : Refusal) → p .ending ≡ refused r → RefusedAfter decideOf (machine (stateOf w) c m) r p → Turned (say p)
+
+    turned : (p q : Path) (r : Refusal) → say (stays (refused r) from) ≡ same r → p ≡ q → p .ending ≡ refused r → M.RunRefused from r q → Turned (say p)
+    turned p _ r h e i M.at-once = subst Turned (sym (ap say e ∙ h)) (unchanged r)
+    turned p q r h e i (M.after-steps l) = after-steps p r i (subst (RefusedAfter decideOf from r) (sym e) l)
+
+    -- the call x, on the path p
+    whole : (x : R) (number : R → ℕ) (n : ℕ) (p : Path) → (fitsOf w a 7 ≡ true → x ≡ say p) → (fitsOf w a 7 ≡ false → x ≡ unfit) → number (say p) ≡ runGives p n .number →
+        (fitsOf w a 7 ≡ true → (r : Refusal) → say (stays (refused r) from) ≡ same r) → ((r : Refusal) → p .ending ≡ refused r → M.RunRefused from r p) → (number x ≡ 0 → ⊥) → Turned x
+    whole x number n p fits misfits is at-once refuses z = go (fitsOf w a 7) refl
+      where
+        go : (t : Bool) → fitsOf w a 7 ≡ t → Turned x
+        go true h =
+            let e = fits h in
+            subst Turned (sym e) (refused-only p n (Turned (say p)) (λ y. z (ap number e ∙ is ∙ y)) (λ r i. turned p p r (at-once h r) refl i (refuses r i)))
+        go false h = subst Turned (sym (misfits h)) misfit-said
+
+  abbrev pub RunTurned : Called → Type 0
+  RunTurned = Turned (λ p. runGives p 0) (misfitted w a m) (refusedCall w m)
+
+  abbrev pub TraceTurned : List ℕ → Recorded → Type 0
+  TraceTurned b = Turned (traceGives b (machine (stateOf w) c m)) (recorded (misfitted w a m) b) (λ r. recorded (refusedCall w m r) b)
+
+  abbrev pub RowsTurned : List ℕ → List ℕ → Tabled → Type 0
+  RowsTurned b t = Turned (rowsGives b t (machine (stateOf w) c m)) (tabled (recorded (misfitted w a m) b) t) (λ r. tabled (recorded (refusedCall w m r) b) t)
 
   run-fitted : (budget : ℕ) → fitsOf w a 7 ≡ true → runCall budget w a c m ≡ runGives (runOf budget from) 0
   unfolding runCall
   run-fitted budget h = rw h
 
-  pub run-whole : (budget : ℕ) → (runCall budget w a c m .number ≡ 0 → ⊥) → RunTurned (runCall budget w a c m)
-  run-whole budget z = go (fitsOf w a 7) refl
-    where
-      go : (t : Bool) → fitsOf w a 7 ≡ t → RunTurned (runCall budget w a c m)
-      go true h =
-          let e = run-fitted budget h in
-          subst RunTurned (sym e)
-          (refused-only (runOf budget from) 0 (RunTurned (runGives (runOf budget from) 0)) (λ y. z (ap (λ (x : Called). x .number) e ∙ y)) (λ r i. run-turned _ _ r h refl i (M.run-refused budget from r i)))
-      go false h = subst RunTurned (sym (run-misfit w a c m h budget)) misfit-said
-
-  trace-fitted : (budget : ℕ) (b : List ℕ) → fitsOf w a 7 ≡ true → traceCall budget w a c m b ≡ traceGives b (traceExecutionOf budget from b) (traceLog budget from b)
+  trace-fitted : (budget : ℕ) (b : List ℕ) → fitsOf w a 7 ≡ true → traceCall budget w a c m b ≡ traceGives b from (traceExecutionOf budget from b)
   unfolding traceCall
   trace-fitted budget b h = rw h
 
-  pub data TraceTurned (b : List ℕ) : Recorded → Type 0 where
-    misfit-said : TraceTurned b (recorded (misfitted w a m) b)
-    unchanged : (r : Refusal) → TraceTurned b (recorded (refusedCall w m r) b)
-    -- the steps before are kept, and their records stand at the start of the log
-    after-steps : (p : Path) (r : Refusal) → p .ending ≡ refused r → RefusedAfter decideOf (machine (stateOf w) c m) r p →
-        TraceTurned b (traceGives b p (logBytes (stateOf w .revision) (logFrom decideOf (machine (stateOf w) c m) (p .machines))))
+  rows-fitted : (budget : ℕ) (b t : List ℕ) → fitsOf w a 7 ≡ true → rowsCall budget w a c m b t ≡ rowsGives b t from (traceRowsOf budget from b t)
+  unfolding rowsCall
+  rows-fitted budget b t h = rw h
 
-  stays-turned : (b : List ℕ) (r : Refusal) → fitsOf w a 7 ≡ true → TraceTurned b (traceGives b (stays (refused r) from) (logBytes (stateOf w .revision) (logFrom decideOf from [])))
-  stays-turned b r h =
-      subst (TraceTurned b)
-      (sym (ap (traceGives b (stays (refused r) from)) (log-none from) ∙ (λ d. recorded (same w a c m h r d) (sym (logged-none b 0) d))))
-      (unchanged r)
-
-  trace-turned : (b : List ℕ) (p q : Path) (r : Refusal) → fitsOf w a 7 ≡ true → p ≡ q → p .ending ≡ refused r → M.RunRefused from r q → TraceTurned b (traceGives b p (logBytes (stateOf w .revision) (logFrom decideOf from (p .machines))))
-  trace-turned b p _ r h e i M.at-once = subst (λ (x : Path). TraceTurned b (traceGives b x (logBytes (stateOf w .revision) (logFrom decideOf from (x .machines))))) (sym e) (stays-turned b r h)
-  trace-turned b p q r h e i (M.after-steps l) = after-steps p r i (subst (RefusedAfter decideOf from r) (sym e) l)
+  pub run-whole : (budget : ℕ) → (runCall budget w a c m .number ≡ 0 → ⊥) → RunTurned (runCall budget w a c m)
+  run-whole budget =
+      whole (λ p. runGives p 0) (misfitted w a m) (refusedCall w m) (runCall budget w a c m) (λ x. x .number) 0 (runOf budget from)
+      (run-fitted budget) (λ h. run-misfit w a c m h budget) refl (same w a c m) (M.run-refused budget from)
 
   pub trace-whole : (budget : ℕ) (b : List ℕ) → (traceCall budget w a c m b .call .number ≡ 0 → ⊥) → TraceTurned b (traceCall budget w a c m b)
-  trace-whole budget b z = go (fitsOf w a 7) refl
-    where
-      go : (t : Bool) → fitsOf w a 7 ≡ t → TraceTurned b (traceCall budget w a c m b)
-      go true h =
-          let e = trace-fitted budget b h in
-          let p = traceExecutionOf budget from b in
-          subst (TraceTurned b) (sym e)
-          (refused-only p (length (traceLog budget from b)) (TraceTurned b (traceGives b p (traceLog budget from b))) (λ y. z (ap (λ (x : Recorded). x .call .number) e ∙ y))
-          (λ r i. trace-turned b _ _ r h refl i (M.trace-refused budget from b r i)))
-      go false h = subst (TraceTurned b) (sym (trace-misfit w a c m h budget b)) misfit-said
+  trace-whole budget b =
+      let p = traceExecutionOf budget from b in
+      whole (traceGives b from) (recorded (misfitted w a m) b) (λ r. recorded (refusedCall w m r) b) (traceCall budget w a c m b) (λ x. x .call .number) (length (pathLog from p)) p
+      (trace-fitted budget b) (λ h. trace-misfit w a c m h budget b) refl (λ h. trace-same w a c m h b) (M.trace-refused budget from b)
 
--- ---- open, helper variables, replay
+  pub rows-whole : (budget : ℕ) (b t : List ℕ) → (rowsCall budget w a c m b t .call .call .number ≡ 0 → ⊥) → RowsTurned b t (rowsCall budget w a c m b t)
+  rows-whole budget b t =
+      let p = traceRowsOf budget from b t in
+      whole (rowsGives b t from) (tabled (recorded (misfitted w a m) b) t) (λ r. tabled (recorded (refusedCall w m r) b) t) (rowsCall budget w a c m b t) (λ x. x .call .call .number) (length (pathLog from p)) p
+      (rows-fitted budget b t) (λ h. rows-misfit w a c m h budget b t) refl (λ h. rows-same w a c m h b t) (M.rows-refused budget from b t)
+
+-- ---- open, helper variables and row, replay
 
 -- an open that gives a number: slices do not fit, or place A refuses; nothing is changed but the answer
 pub data OpenTurned (w a : List ℕ) (m : Memory) : Called → Type 0 where
@@ -176,34 +173,43 @@ open-whole w a v g n c m z = go (openFitsOf w a g) refl
     go true h = let e = open-fitted w a v g n c m h in subst (OpenTurned w a m) (sym e) (by (openOf v g c m n) (λ y. z (ap (λ (x : Called). x .number) e ∙ y)))
     go false h = subst (OpenTurned w a m) (sym (open-misfit w a v g n c m h)) misfit-said
 
-helper-fitted : (w v : List ℕ) (c : Code) (m : Memory) → fitsOf w v 6 ≡ true → helperCall w v c m ≡ helperVariablesOf (machine (stateOf w) c m)
-unfolding helperCall
-helper-fitted w v c m h = rw h
+-- what is left in the slice v of k words: k zeros, or v itself where it has not k words
+abbrev pub GivenTurned : ℕ → List ℕ → List ℕ → Type 0
+GivenTurned k v x = (x ≡ replicate k 0) ⊎ ((length v ≡ k → ⊥) × (x ≡ v))
 
-helper-zeros : (m : Machine) (t : Bool) → eqb (machineA m) 0 ≡ t → (helperVariablesOf m .number ≡ 0 → ⊥) → helperVariablesOf m .helpers ≡ replicate 6 0
-unfolding helperVariablesOf
-helper-zeros m true h k = absurd (k (rw h))
-helper-zeros m false h k = rw h
+given-unfit : (k : ℕ) (v : List ℕ) (t : Bool) → eqb (length v) k ≡ t → GivenTurned k v (zeroed k v)
+unfolding zeroed
+given-unfit k v true h = inl (rw h)
+given-unfit k v false h = inr (eqb-false (length v) k h, rw h)
 
--- what is left in the slice v: six zeros, or v itself where it has not six words
-abbrev pub HelperTurned : List ℕ → List ℕ → Type 0
-HelperTurned v x = (x ≡ replicate 6 0) ⊎ ((length v ≡ 6 → ⊥) × (x ≡ v))
+given-zeros : (m : Machine) (k : ℕ) (s : List ℕ) (t : Bool) → eqb (machineA m) 0 ≡ t → (givenOf m k s .number ≡ 0 → ⊥) → givenOf m k s .words ≡ replicate k 0
+unfolding givenOf
+given-zeros m k s true h z = absurd (z (rw h))
+given-zeros m k s false h z = rw h
 
-helper-unfit : (v : List ℕ) (t : Bool) → eqb (length v) 6 ≡ t → HelperTurned v (noHelpers v)
-unfolding noHelpers
-helper-unfit v true h = inl (rw h)
-helper-unfit v false h = inr (eqb-false (length v) 6 h, rw h)
+given-fitted : (k : ℕ) (f : Machine → Given) (w v : List ℕ) (c : Code) (m : Memory) → fitsOf w v k ≡ true → givenCall k f w v c m ≡ f (machine (stateOf w) c m)
+unfolding givenCall
+given-fitted k f w v c m h = rw h
 
--- a helper call that gives a number. Registers and memory are only read
-pub helper-whole : (w v : List ℕ) (c : Code) (m : Memory) → (helperCall w v c m .number ≡ 0 → ⊥) → HelperTurned v (helperCall w v c m .helpers)
-helper-whole w v c m z = go (fitsOf w v 6) refl
+-- a call that gives words of the machine, or a number. Registers and memory are only read
+given-whole : (k : ℕ) (f : Machine → List ℕ) (w v : List ℕ) (c : Code) (m : Memory) → (givenCall k (λ x. givenOf x k (f x)) w v c m .number ≡ 0 → ⊥) → GivenTurned k v (givenCall k (λ x. givenOf x k (f x)) w v c m .words)
+given-whole k f w v c m z = go (fitsOf w v k) refl
   where
-    go : (t : Bool) → fitsOf w v 6 ≡ t → HelperTurned v (helperCall w v c m .helpers)
+    g : Machine → Given
+    g x = givenOf x k (f x)
+
+    go : (t : Bool) → fitsOf w v k ≡ t → GivenTurned k v (givenCall k g w v c m .words)
     go true h =
-        let e = helper-fitted w v c m h in
+        let e = given-fitted k g w v c m h in
         let x = machine (stateOf w) c m in
-        inl (ap (λ (y : Helped). y .helpers) e ∙ helper-zeros x (eqb (machineA x) 0) refl (λ y. z (ap (λ (i : Helped). i .number) e ∙ y)))
-    go false h = subst (λ (x : Helped). HelperTurned v (x .helpers)) (sym (helper-misfit w v c m h)) (helper-unfit v (eqb (length v) 6) refl)
+        inl (ap (λ (y : Given). y .words) e ∙ given-zeros x k (f x) (eqb (machineA x) 0) refl (λ y. z (ap (λ (i : Given). i .number) e ∙ y)))
+    go false h = subst (λ (x : Given). GivenTurned k v (x .words)) (sym (given-misfit k g w v c m h)) (given-unfit k v (eqb (length v) k) refl)
+
+pub helper-whole : (w v : List ℕ) (c : Code) (m : Memory) → (helperCall w v c m .number ≡ 0 → ⊥) → GivenTurned 6 v (helperCall w v c m .words)
+helper-whole = given-whole 6 helpersAt
+
+pub row-whole : (w v : List ℕ) (c : Code) (m : Memory) → (rowCall w v c m .number ≡ 0 → ⊥) → GivenTurned rowWords v (rowCall w v c m .words)
+row-whole = given-whole rowWords rowOf
 
 -- a replay that gives a number: stack slice and RAM slices stay; the answer says the number and zeros, and one of another length stays
 pub data ReplayTurned (a s : List ℕ) (c : Cells) : Replied → Type 0 where

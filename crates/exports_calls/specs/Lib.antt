@@ -1,5 +1,5 @@
 -- What the contracts cite.
-pub mod HelperCall
+pub mod GivenCall
 pub mod OpenCall
 pub mod ReplayCall
 pub mod RunCall

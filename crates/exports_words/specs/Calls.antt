@@ -33,7 +33,15 @@ pub record Recorded : Type 0 where
 abbrev pub recorded : Called → List ℕ → Recorded
 recorded c b = record { call = c; buffer = b }
 
--- registers that can be read, and an answer or helpers of n words
+-- and the words lent for rows
+pub record Tabled : Type 0 where
+  pub call : Recorded
+  pub table : List ℕ
+
+abbrev pub tabled : Recorded → List ℕ → Tabled
+tabled c t = record { call = c; table = t }
+
+-- registers that can be read, and an answer, or a slice for words of the machine, of n words
 unfoldable pub fitsOf : List ℕ → List ℕ → ℕ → Bool
 fitsOf w a n = cond (readableOf w) (eqb (length a) n) false
 

@@ -5,7 +5,7 @@ use lib.ListN.{length}
 use lib.Dec.{eqb}
 use Rattle.choices.specs.Choice.{cond}
 use Rattle.machine.specs.Refusal.{Refusal, plainly}
-use Rattle.machine.specs.Path.{Ending, halted, spent, full, refused}
+use Rattle.machine.specs.Path.{the-log, the-table, Ending, halted, spent, full, refused}
 use Rattle.machine_perform.specs.AnswerView.{Answered, did, turned}
 use Rattle.exports_words.specs.declared.report.Report.{Report}
 
@@ -30,11 +30,12 @@ abbrev pub openReport : Answered → Report
 openReport did = report 0 unrefused 0 0
 openReport (turned r) = report 3 r 0 0
 
--- how a run or a trace ended, after so many steps, with n bytes of records
+-- how a call of several steps ended, after so many of them, with n bytes of records
 abbrev pub runReport : Ending → ℕ → ℕ → Report
 runReport halted steps n = report 0 unrefused steps n
 runReport spent steps n = report 1 unrefused steps n
-runReport full steps n = report 2 unrefused steps n
+runReport (full the-log) steps n = report 2 unrefused steps n
+runReport (full the-table) steps n = report 4 unrefused steps n
 runReport (refused r) steps n = report 3 r steps n
 
 unfoldable pub answerOf : Report → List ℕ

@@ -22,7 +22,7 @@ pub struct Report {
     pub bytes: u64,
 }
 
-// Ended with no refusal, in one of the ways 0 to 2.
+// Ended with no refusal.
 fn unrefused(ending: u64, steps: u64, bytes: u64) -> Report
     ensures { λ r. ⌜ r ≡ report ending unrefused steps bytes ⌝ }
 {
@@ -77,6 +77,7 @@ pub fn run_report(ending: Ending, count: u64, bytes: usize) -> Report
         Ending::Halted => unrefused(0, count, bytes as u64),
         Ending::Spent => unrefused(1, count, bytes as u64),
         Ending::Full => unrefused(2, count, bytes as u64),
+        Ending::TableFull => unrefused(4, count, bytes as u64),
         Ending::Refused(error) => refused(error, count, bytes as u64),
     }
 }

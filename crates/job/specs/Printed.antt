@@ -24,7 +24,7 @@ outLines (w ∷ ws) = outLine w ++ outLines ws
 unfoldable pub endLine : Ending → ℕ → ℕ → ℕ → List ℕ
 endLine halted n q d = haltedLine n q d
 endLine spent n q d = spentLine n q d
-endLine full n q d = []
+endLine (full w) n q d = []
 endLine (refused r) n q d = refusedLine (r .number) n q d
 
 -- where no job was opened the last three are 0

@@ -26,14 +26,15 @@ use Rattle.machine.specs.Decide.{opcodeOf, argumentOf, effectOf, decideI
 use Rattle.machine.specs.Apply.{took, lost, dropped}
 use Rattle.machine.specs.PlaceA.{machineA}
 use Rattle.machine.specs.Step.{outcomeBy}
-use Rattle.machine.specs.Run.{runOf, traceExecutionOf}
+use Rattle.machine.specs.Path.{Space}
+use Rattle.machine.specs.Run.{callBy}
 use Rattle.machine.specs.Sound.{Sound}
 use Rattle.machine.proofs.Rows.{Each, gathered, each-decode}
 use Rattle.machine.proofs.PlaceA.{machine-sound, machine-accepted}
 use Rattle.machine.proofs.Facts.{facts}
 use Rattle.machine.proofs.Step.{step-sound, step-lost}
 use Rattle.machine.proofs.Path.{lost-sound}
-use Rattle.machine.proofs.Run.{run-sound, trace-sound}
+use Rattle.machine.proofs.Run.{call-sound}
 
 -- P of the refusal where a decision drops
 pub data Drops (P : Refusal → Type 0) : Decision → Type 0 where
@@ -201,8 +202,6 @@ module _ (m : Machine) (sixteen : length (m .state .sponge .words) ≡ 16) (cloc
   pub lost-accepted : (r : Refusal) (x : Machine) → outcomeBy decideOf m ≡ lost r x → machineA x ≡ 0
   lost-accepted r x e = machine-accepted x (lost-sound decideOf facts (λ m s r e. drops-deep m r e) m r x sound e)
 
-  pub run-accepted : (n : ℕ) → machineA (runOf n m .left) ≡ 0
-  run-accepted n = machine-accepted (runOf n m .left) (run-sound decideOf facts (λ m s r e. drops-deep m r e) n m sound)
-
-  pub trace-accepted : (n : ℕ) (b : List ℕ) → machineA (traceExecutionOf n m b .left) ≡ 0
-  trace-accepted n b = machine-accepted (traceExecutionOf n m b .left) (trace-sound decideOf facts (λ m s r e. drops-deep m r e) n m b sound)
+  -- run, trace_execution and trace_rows, whatever is lent beside the machine
+  pub call-accepted : (a : ℕ) (s : Space) (n : ℕ) → machineA (callBy decideOf a s n m .left) ≡ 0
+  call-accepted a s n = machine-accepted (callBy decideOf a s n m .left) (call-sound decideOf facts (λ m s r e. drops-deep m r e) a s n m sound)

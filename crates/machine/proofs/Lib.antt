@@ -27,6 +27,7 @@ pub mod Facts
 pub mod StepBytes
 pub mod ProvedTable
 pub mod Step
+pub mod ProcessorRow
 pub mod Path
 pub mod Run
 pub mod Drops

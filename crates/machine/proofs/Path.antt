@@ -14,7 +14,7 @@ use Rattle.machine.specs.Effect.{Effect, Decision, acts, drops}
 use Rattle.machine.specs.Apply.{Outcome, took, kept, lost}
 use Rattle.machine.specs.Records.{Record}
 use Rattle.machine.specs.Step.{recordsIn, outcomeBy}
-use Rattle.machine.specs.Path.{Ending, halted, spent, full, refused, Path, path, count, stays, onward, Space, unlogged, tooLittle, behind, stepLog, pathBy, logFrom}
+use Rattle.machine.specs.Path.{Full, Ending, halted, spent, full, refused, Path, path, count, stays, onward, Space, unlogged, tooLittle, fullOf, behind, stepLog, pathBy, logFrom}
 use Rattle.machine.specs.Sound.{Sound, Facts}
 use Rattle.machine.proofs.Preserved.{dropped-sound}
 use Rattle.machine.proofs.Step.{step-sound, step-lost, step-revision, lost-revision}
@@ -28,17 +28,17 @@ after x p = path (x ∷ p .machines) (p .left) (p .dropped) (p .ending)
 abbrev pub joined : Path → Path → Path
 joined p q = path (p .machines ++ q .machines) (q .left) (q .dropped) (q .ending)
 
--- p, and behind it q where p ended only because its budget or its log was used up
+-- p, and behind it q where p ended only because its budget or the room for it was used up
 abbrev pub goingOn : Ending → Path → Path → Path
 goingOn halted p q = p
 goingOn spent p q = joined p q
-goingOn full p q = joined p q
+goingOn (full w) p q = joined p q
 goingOn (refused r) p q = p
 
 going-after : (e : Ending) (x : Machine) (p q : Path) → after x (goingOn e p q) ≡ goingOn e (after x p) q
 going-after halted x p q = refl
 going-after spent x p q = refl
-going-after full x p q = refl
+going-after (full w) x p q = refl
 going-after (refused r) x p q = refl
 
 -- ---- how a path ends
@@ -52,7 +52,7 @@ pub record Ends (n : ℕ) (p : Path) : Type 0 where
   pub of-halted : p .ending ≡ halted → p .left .state .halted ≡ true
   -- a refused step was one of the budget, and so was one for which there was no room
   pub of-refused : (q : Refusal) → p .ending ≡ refused q → count p < n
-  pub of-full : p .ending ≡ full → count p < n
+  pub of-full : (w : Full) → p .ending ≡ full w → count p < n
 
 -- and the other way: as many steps as the budget, and not halted, is spent
 pub is-spent : {n : ℕ} {p : Path} → Ends n p → count p ≡ n → p .left .state .halted ≡ false → p .ending ≡ spent
@@ -61,7 +61,7 @@ is-spent {n} {p} e c h = go (p .ending) refl
     go : (x : Ending) → p .ending ≡ x → x ≡ spent
     go halted q = absurd (true≢false (sym (e .of-halted q) ∙ h))
     go spent q = refl
-    go full q = let l : count p < n = e .of-full q in absurd (omega arith)
+    go (full w) q = let l : count p < n = e .of-full w q in absurd (omega arith)
     go (refused w) q = let l : count p < n = e .of-refused w q in absurd (omega arith)
 
 -- the last of the machines behind m
@@ -80,7 +80,7 @@ module _ (decide : Machine → Decision) where
   pub data Goes : Space → ℕ → Machine → Path → Type 0 where
     at-halt : {s : Space} {n : ℕ} {m : Machine} → m .state .halted ≡ true → Goes s n m (stays halted m)
     at-budget : {s : Space} {m : Machine} → m .state .halted ≡ false → Goes s 0 m (stays spent m)
-    at-full : {s : Space} {n : ℕ} {m : Machine} → m .state .halted ≡ false → tooLittle (m .state .revision) s ≡ true → Goes s (suc n) m (stays full m)
+    at-full : {s : Space} {n : ℕ} {m : Machine} → m .state .halted ≡ false → tooLittle (m .state .revision) s ≡ true → Goes s (suc n) m (stays (full (fullOf (m .state .revision) s)) m)
     at-refusal : {s : Space} {n : ℕ} {m : Machine} {r : Refusal} → m .state .halted ≡ false → outcomeBy decide m ≡ kept r → Goes s (suc n) m (stays (refused r) m)
     at-drop : {s : Space} {n : ℕ} {m x : Machine} {r : Refusal} → m .state .halted ≡ false → outcomeBy decide m ≡ lost r x → Goes s (suc n) m (path [] x true (refused r))
     by-step : {s : Space} {n : ℕ} {m x : Machine} {p : Path} → m .state .halted ≡ false → outcomeBy decide m ≡ took x → Goes (behind s (stepLog decide m)) n x p → Goes s (suc n) m (after x p)
@@ -102,7 +102,7 @@ module _ (decide : Machine → Decision) where
   goes s (suc n) m = go (m .state .halted) (tooLittle (m .state .revision) s) refl refl (λ x. goes (behind s (stepLog decide m)) n x)
     where
       go : (t u : Bool) → m .state .halted ≡ t → tooLittle (m .state .revision) s ≡ u → ((x : Machine) → Goes (behind s (stepLog decide m)) n x (pathBy decide (behind s (stepLog decide m)) n x)) →
-          Goes s (suc n) m (cond t (stays halted m) (cond u (stays full m) (onward m (λ x. pathBy decide (behind s (stepLog decide m)) n x) (outcomeBy decide m))))
+          Goes s (suc n) m (cond t (stays halted m) (cond u (stays (full (fullOf (m .state .revision) s)) m) (onward m (λ x. pathBy decide (behind s (stepLog decide m)) n x) (outcomeBy decide m))))
       go true u h l ih = at-halt h
       go false true h l ih = at-full h l
       go false false h l ih = goes-on s n m (outcomeBy decide m) refl h ih
@@ -118,7 +118,7 @@ module _ (decide : Machine → Decision) where
   unfolding pathBy
   path-spent s m h = rw h
 
-  pub path-full : (s : Space) (n : ℕ) (m : Machine) → m .state .halted ≡ false → tooLittle (m .state .revision) s ≡ true → pathBy decide s (suc n) m ≡ stays full m
+  pub path-full : (s : Space) (n : ℕ) (m : Machine) → m .state .halted ≡ false → tooLittle (m .state .revision) s ≡ true → pathBy decide s (suc n) m ≡ stays (full (fullOf (m .state .revision) s)) m
   unfolding pathBy
   path-full s n m h l = rw (h, l)
 
@@ -135,35 +135,35 @@ module _ (decide : Machine → Decision) where
     of-spent = λ q. let z : _≡_ {A = ℕ} 0 1 = cc in absurd (omega arith);
     of-halted = λ q. h;
     of-refused = λ w q. let z : _≡_ {A = ℕ} 0 1 = cc in absurd (omega arith);
-    of-full = λ q. let z : _≡_ {A = ℕ} 0 1 = cc in absurd (omega arith);
+    of-full = λ w q. let z : _≡_ {A = ℕ} 0 1 = cc in absurd (omega arith);
   }
   path-ends (at-budget h) = record {
     few = omega arith;
     of-spent = λ q. (refl, h);
     of-halted = λ q. let z : _≡_ {A = ℕ} 0 1 = cc in absurd (omega arith);
     of-refused = λ w q. let z : _≡_ {A = ℕ} 0 1 = cc in absurd (omega arith);
-    of-full = λ q. let z : _≡_ {A = ℕ} 0 1 = cc in absurd (omega arith);
+    of-full = λ w q. let z : _≡_ {A = ℕ} 0 1 = cc in absurd (omega arith);
   }
   path-ends (at-full h l) = record {
     few = omega arith;
     of-spent = λ q. let z : _≡_ {A = ℕ} 0 1 = cc in absurd (omega arith);
     of-halted = λ q. let z : _≡_ {A = ℕ} 0 1 = cc in absurd (omega arith);
     of-refused = λ w q. omega arith;
-    of-full = λ q. omega arith;
+    of-full = λ w q. omega arith;
   }
   path-ends (at-refusal h e) = record {
     few = omega arith;
     of-spent = λ q. let z : _≡_ {A = ℕ} 0 1 = cc in absurd (omega arith);
     of-halted = λ q. let z : _≡_ {A = ℕ} 0 1 = cc in absurd (omega arith);
     of-refused = λ w q. omega arith;
-    of-full = λ q. omega arith;
+    of-full = λ w q. omega arith;
   }
   path-ends (at-drop h e) = record {
     few = omega arith;
     of-spent = λ q. let z : _≡_ {A = ℕ} 0 1 = cc in absurd (omega arith);
     of-halted = λ q. let z : _≡_ {A = ℕ} 0 1 = cc in absurd (omega arith);
     of-refused = λ w q. omega arith;
-    of-full = λ q. omega arith;
+    of-full = λ w q. omega arith;
   }
   path-ends (by-step h e g) =
       let k = path-ends g in
@@ -172,7 +172,7 @@ module _ (decide : Machine → Decision) where
         of-spent = λ q. let l = k .of-spent q in (ap suc (l .0), l .1);
         of-halted = λ q. k .of-halted q;
         of-refused = λ w q. omega (arith, k .of-refused w q);
-        of-full = λ q. omega (arith, k .of-full q);
+        of-full = λ w q. omega (arith, k .of-full w q);
       }
 
   -- ---- a row of steps
@@ -199,7 +199,7 @@ module _ (decide : Machine → Decision) where
   pub path-row : {s : Space} {n : ℕ} {m : Machine} {p : Path} → Goes s n m p → Row m p
   path-row {m = m} (at-halt h) = row-stays m halted
   path-row {m = m} (at-budget h) = row-stays m spent
-  path-row {m = m} (at-full h l) = row-stays m full
+  path-row {s = s} {m = m} (at-full h l) = row-stays m (full (fullOf (m .state .revision) s))
   path-row {m = m} (at-refusal {r = r} h e) = row-stays m (refused r)
   path-row {m = m} (at-drop {x = x} {r = r} h e) = row-drops m x (refused r)
   path-row (by-step h e g) = let k = path-row g in record { chain = chain-more e (k .chain); left = k .left }

@@ -1,4 +1,5 @@
--- What place A's number makes of each call: where it is 0 open opens, and elsewhere each call gives that number and changes nothing. Assumes nothing.
+-- What place A's number makes of the calls that take at most one step: where it is 0 open opens, and elsewhere each gives that number and changes nothing
+-- (call-refuses in Run.antt says it of the others). Assumes nothing.
 use mathlib.Core.Path.{_≡_, refl}
 use mathlib.Core.List.{List}
 use Prim.Native.Nat.{ℕ}
@@ -12,9 +13,7 @@ use Rattle.machine.specs.Apply.{took, kept}
 use Rattle.machine.specs.PlaceA.{openA, machineA, stepA}
 use Rattle.machine.specs.Open.{opened, openOf}
 use Rattle.machine.specs.Step.{stepBy}
-use Rattle.machine.specs.Path.{stays, refused}
-use Rattle.machine.specs.Run.{traceA, runBy, traceBy}
-use Rattle.machine.specs.HelperVariables.{helperVariablesOf}
+use Rattle.machine.specs.Given.{given, givenOf}
 
 -- a number that the code hands on as it is
 pub numbered-is : (n : ℕ) → refusalOf (E.Numbered n) ≡ plainly n
@@ -29,19 +28,12 @@ pub open-refuses : (v : ℕ) (g : List ℕ) (c : Code) (m : Memory) (n : ℕ) �
 unfolding openOf
 open-refuses v g c m n h = rw (ne-eqb (openA v g c m n) 0 h)
 
-pub helpers-refused : (m : Machine) → (machineA m ≡ 0 → ⊥) → helperVariablesOf m ≡ (record { number = machineA m; helpers = replicate 6 0 })
-unfolding helperVariablesOf
-helpers-refused m h = rw (ne-eqb (machineA m) 0 h)
+-- helper variables, and the row
+pub given-refused : (m : Machine) (k : ℕ) (s : List ℕ) → (machineA m ≡ 0 → ⊥) → givenOf m k s ≡ given (machineA m) (replicate k 0)
+unfolding givenOf
+given-refused m k s h = rw (ne-eqb (machineA m) 0 h)
 
 module _ (decide : Machine → Decision) where
   pub step-refuses : (m : Machine) (b : List ℕ) → (stepA m b ≡ 0 → ⊥) → stepBy decide m b ≡ (record { outcome = kept (plainly (stepA m b)); bytes = 0; buffer = b })
   unfolding stepBy
   step-refuses m b h = rw (ne-eqb (stepA m b) 0 h)
-
-  pub run-refuses : (n : ℕ) (m : Machine) → (machineA m ≡ 0 → ⊥) → runBy decide n m ≡ stays (refused (plainly (machineA m))) m
-  unfolding runBy
-  run-refuses n m h = rw (ne-eqb (machineA m) 0 h)
-
-  pub trace-refuses : (n : ℕ) (m : Machine) (b : List ℕ) → (traceA m b ≡ 0 → ⊥) → traceBy decide n m b ≡ stays (refused (plainly (traceA m b))) m
-  unfolding traceBy
-  trace-refuses n m b h = rw (ne-eqb (traceA m b) 0 h)

@@ -6,6 +6,7 @@ use mathlib.Core.List.{List}
 use Prim.Native.Nat.{ℕ}
 use native.Mathlib.Omega.{arith}
 use borrow.Author.Tests.{eqb-true, eqb-false}
+use lib.ListN.{length}
 use lib.Dec.{eqb}
 use Rattle.choices.specs.Choice.{cond}
 use Rattle.machine.specs.Refusal.{Refusal, plainly}
@@ -15,12 +16,12 @@ use Rattle.machine.specs.Apply.{Outcome, took, kept, lost, dropped}
 use Rattle.machine.specs.PlaceA.{openA, machineA, stepA}
 use Rattle.machine.specs.Open.{opened, openOf}
 use Rattle.machine.specs.Step.{Stepped, stepOf, outcomeBy}
-use Rattle.machine.specs.Path.{Path, stays, refused}
-use Rattle.machine.specs.Run.{traceA, runOf, traceExecutionOf}
+use Rattle.machine.specs.Path.{Space, unlogged, bytes, tabled, Path, stays, refused}
+use Rattle.machine.specs.Run.{traceA, rowsA, callBy, runOf, traceExecutionOf, traceRowsOf}
 use Rattle.machine.proofs.Step.{step-outcome, refused-buffer, lost-buffer}
 use Rattle.machine.proofs.Path.{RefusedAfter}
-use Rattle.machine.proofs.Run.{run-refused-after, trace-refused-after}
-use Rattle.machine.proofs.Refused.{open-accepts, open-refuses, run-refuses, trace-refuses}
+use Rattle.machine.proofs.Run.{call-refuses, call-refused-after}
+use Rattle.machine.proofs.Refused.{open-accepts, open-refuses}
 use Rattle.machine.proofs.Drops.{AtSkiz, lost-at-skiz}
 
 -- what a step that is refused gives, from the machine m with the call buffer b
@@ -55,10 +56,11 @@ step-refused m b h = go (stepOf m b .outcome) refl
 pub open-refused : (v : ℕ) (g : List ℕ) (c : Code) (m : Memory) (n : ℕ) → ((x : Machine) → openOf v g c m n ≡ took x → ⊥) → openOf v g c m n ≡ kept (plainly (openA v g c m n))
 open-refused v g c m n h = open-refuses v g c m n (λ e. h (opened v g c m n) (open-accepts v g c m n e))
 
--- ---- run and trace_execution
+-- ---- run, trace_execution and trace_rows
 
--- what a run or a trace that is refused with w gives, from the machine m: place A refuses it, and nothing is changed; or it has taken steps, which are kept, and
--- the refused one leaves what a refused step leaves. A trace's log has the records of the steps that it took (Traces, in its contract)
+-- what a call that is refused with w gives, from the machine m: place A refuses it, and nothing is changed; or it has taken steps, which are kept, and
+-- the refused one leaves what a refused step leaves. Log and table have the records and the rows of the steps that it took (Traces and TracesRows, in the
+-- contracts)
 pub data RunRefused (m : Machine) (w : Refusal) : Path → Type 0 where
   at-once : RunRefused m w (stays (refused w) m)
   after-steps : {p : Path} → RefusedAfter decideOf m w p → RunRefused m w p
@@ -66,22 +68,21 @@ pub data RunRefused (m : Machine) (w : Refusal) : Path → Type 0 where
 ending-is : (w v : Refusal) → refused v ≡ refused w → v ≡ w
 ending-is w v e = cc
 
--- a call that place A refuses
-refused-once : (m : Machine) (w v : Refusal) (p : Path) → p ≡ stays (refused v) m → p .ending ≡ refused w → RunRefused m w p
-refused-once m w v p k h =
-    let q = ending-is w v (ap (λ (r : Path). r .ending) (sym k) ∙ h) in
-    subst (RunRefused m w) (sym (k ∙ ap (λ (x : Refusal). stays (refused x) m) q)) at-once
+call-refused : (a : ℕ) (s : Space) (n : ℕ) (m : Machine) (w : Refusal) → callBy decideOf a s n m .ending ≡ refused w → RunRefused m w (callBy decideOf a s n m)
+call-refused a s n m w h = go (eqb a 0) refl
+  where
+    go : (t : Bool) → eqb a 0 ≡ t → RunRefused m w (callBy decideOf a s n m)
+    go true e = after-steps (call-refused-after decideOf a s n m w (eqb-true a 0 e) h)
+    go false e =
+        let k = call-refuses decideOf a s n m (eqb-false a 0 e) in
+        let q = ending-is w (plainly a) (ap (λ (r : Path). r .ending) (sym k) ∙ h) in
+        subst (RunRefused m w) (sym (k ∙ ap (λ (x : Refusal). stays (refused x) m) q)) at-once
 
 pub run-refused : (n : ℕ) (m : Machine) (w : Refusal) → runOf n m .ending ≡ refused w → RunRefused m w (runOf n m)
-run-refused n m w h = go (eqb (machineA m) 0) refl
-  where
-    go : (t : Bool) → eqb (machineA m) 0 ≡ t → RunRefused m w (runOf n m)
-    go true e = after-steps (run-refused-after decideOf n m w (eqb-true (machineA m) 0 e) h)
-    go false e = refused-once m w _ _ (run-refuses decideOf n m (eqb-false (machineA m) 0 e)) h
+run-refused n m = call-refused (machineA m) unlogged n m
 
 pub trace-refused : (n : ℕ) (m : Machine) (b : List ℕ) (w : Refusal) → traceExecutionOf n m b .ending ≡ refused w → RunRefused m w (traceExecutionOf n m b)
-trace-refused n m b w h = go (eqb (traceA m b) 0) refl
-  where
-    go : (t : Bool) → eqb (traceA m b) 0 ≡ t → RunRefused m w (traceExecutionOf n m b)
-    go true e = after-steps (trace-refused-after decideOf n m b w (eqb-true (traceA m b) 0 e) h)
-    go false e = refused-once m w _ _ (trace-refuses decideOf n m b (eqb-false (traceA m b) 0 e)) h
+trace-refused n m b = call-refused (traceA m b) (bytes (length b)) n m
+
+pub rows-refused : (n : ℕ) (m : Machine) (b t : List ℕ) (w : Refusal) → traceRowsOf n m b t .ending ≡ refused w → RunRefused m w (traceRowsOf n m b t)
+rows-refused n m b t = call-refused (rowsA m b t) (tabled (length b) (length t)) n m

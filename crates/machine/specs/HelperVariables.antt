@@ -5,14 +5,13 @@ use lib.ListN.{length, getD, replicate, take}
 use lib.Dec.{eqb, ltb}
 use Rattle.field.specs.Base.{addP, subP, inverseP}
 use Rattle.choices.specs.Choice.{cond}
-use Rattle.machine.specs.Refusal.{Refusal, plainly}
 use Rattle.machine.specs.Instruction.{Instruction, Row, Decoded, known, unknown, decode}
 use Rattle.machine.specs.Instruction as I
 use Rattle.machine.specs.Ram.{Cells, held}
 use Rattle.machine.specs.Machine.{Machine, st, top, ram, digestsLeft}
 use Rattle.machine.specs.Memory.{wordsUp}
 use Rattle.machine.specs.Decide.{opcodeOf, argumentOf}
-use Rattle.machine.specs.PlaceA.{machineA}
+use Rattle.machine.specs.Given.{Given, givenOf}
 
 -- up to six words, and zeros behind them
 abbrev pub filled : List ℕ → List ℕ
@@ -93,11 +92,5 @@ helpersIn (known r) n m = helpersOf (r .instruction) n m
 unfoldable pub helpersAt : Machine → List ℕ
 helpersAt m = filled (cond (ltb (m .state .pointer) (length (m .code .opcodes))) (helpersIn (decode (opcodeOf m)) (argumentOf m) m) [])
 
--- the number of place A, or 0, and six words, zeros where it is refused
-pub record Helped : Type 0 where
-  pub number : ℕ
-  pub helpers : List ℕ
-
-unfoldable pub helperVariablesOf : Machine → Helped
-helperVariablesOf m =
-    cond (eqb (machineA m) 0) (record { number = 0; helpers = helpersAt m }) (record { number = machineA m; helpers = replicate 6 0 })
+abbrev pub helperVariablesOf : Machine → Given
+helperVariablesOf m = givenOf m 6 (helpersAt m)

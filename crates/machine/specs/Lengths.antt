@@ -1,4 +1,4 @@
--- Place A's number 1 over one slice, and the bytes of a step by the log's revision.
+-- Place A's number 1 over one slice, the bytes of a step by the log's revision, and the words of a row.
 use Prim.Native.Nat.{ℕ, _+_}
 use mathlib.Core.List.{List}
 use lib.ListN.{length}
@@ -19,3 +19,7 @@ clockBytes v = cond (eqb v 2) 4 0
 -- 'One step writes at most 1,024 bytes', 'a revision 2 step up to 1,028': the longest have one such record
 unfoldable pub mostBytes : ℕ → ℕ
 mostBytes v = 1024 + clockBytes v
+
+-- the words of a row of the processor table
+abbrev pub rowWords : ℕ
+rowWords = 37

@@ -25,7 +25,9 @@ pub mod Open
 pub mod Step
 pub mod Path
 pub mod Run
+pub mod Given
 pub mod HelperVariables
+pub mod ProcessorRow
 pub mod Sound
 pub mod ProvedTable
 pub mod UnderflowIO

@@ -1,15 +1,22 @@
 -- What the code of the helper variables needs of lists and of a match's arms; and that a sound machine gives what it relies
 -- on. Assumes nothing.
 use mathlib.Core.Path.{_≡_, refl, sym, ap, subst, _∙_}
+use mathlib.Core.Bool.{Bool, true, false}
 use mathlib.Core.Logic.{inl, inr}
 use mathlib.Core.List.{List, [], _∷_}
-use Prim.Native.Nat.{ℕ, zero, suc, _+_, _≤_}
+use Prim.Native.Nat.{ℕ, zero, suc, _+_, _≤_, _<_}
 use native.Mathlib.Numerals.{add-one}
 use native.Mathlib.Omega.{arith}
+use borrow.Author.Tests.{lt-ltb, le-ltb}
 use lib.ListN.{length, getD, take}
+use lib.Dec.{ltb}
 use Rattle.machine_effects.specs.declared.memory.Accesses.{Accesses}
+use Rattle.choices.specs.Choice.{cond}
+use Rattle.machine.specs.Instruction.{decode}
 use Rattle.machine.specs.Ram.{Cells}
 use Rattle.machine.specs.Machine.{Machine}
+use Rattle.machine.specs.Decide.{opcodeOf, argumentOf}
+use Rattle.machine.specs.HelperVariables.{filled, helpersIn, helpersAt}
 use Rattle.machine.specs.Memory.{wordsUp}
 use Rattle.machine_effects.specs.MemoryView.{ReadUp}
 use Rattle.machine.specs.Sound.{Sound}
@@ -68,3 +75,24 @@ sound-helpable m s =
       digests = s .digests;
       usable = record { ordered = record { within = s .cells .used; ascending = s .cells .ascending }; values = rw (← s .cells .pair) (s .cells .used) };
     }
+
+-- ---- the machine that shows what is handed
+
+slot-is : (m : Machine) {o a : List ℕ} {pointer : ℕ} → m .state .pointer ≡ pointer → m .code .opcodes ≡ o → m .code .arguments ≡ a → (opcodeOf m ≡ getD o pointer 0) × (argumentOf m ≡ getD a pointer 0)
+slot-is m p o a = ((λ i. getD (o i) (p i) 0), (λ i. getD (a i) (p i) 0))
+
+module _ (m : Machine) {pointer : ℕ} {o : List ℕ} (p : m .state .pointer ≡ pointer) (q : m .code .opcodes ≡ o) where
+  pub slot-helpers : {a r : List ℕ} → m .code .arguments ≡ a → pointer < length o → r ≡ filled (helpersIn (decode (getD o pointer 0)) (getD a pointer 0) m) → r ≡ helpersAt m
+  unfolding helpersAt
+  slot-helpers e l x =
+      let k = slot-is m p q e in
+      let t : ltb (m .state .pointer) (length (m .code .opcodes)) ≡ true = rw (p, q) (lt-ltb pointer (length o) l) in
+      x
+      ∙ (λ i. filled (helpersIn (decode (sym (k .0) i)) (sym (k .1) i) m))
+      ∙ ap (λ (b : Bool). filled (cond b (helpersIn (decode (opcodeOf m)) (argumentOf m) m) [])) (sym t)
+
+  pub outside-helpers : length o ≤ pointer → filled [] ≡ helpersAt m
+  unfolding helpersAt
+  outside-helpers l =
+      let t : ltb (m .state .pointer) (length (m .code .opcodes)) ≡ false = rw (p, q) (le-ltb pointer (length o) l) in
+      ap (λ (b : Bool). filled (cond b (helpersIn (decode (opcodeOf m)) (argumentOf m) m) [])) (sym t)

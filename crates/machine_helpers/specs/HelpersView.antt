@@ -2,7 +2,7 @@
 use Prim.Native.Nat.{ℕ, _*_, _≤_, _<_}
 use mathlib.Core.Path.{_≡_}
 use mathlib.Core.List.{List}
-use lib.ListN.{length, drop}
+use lib.ListN.{length, getD, drop}
 use Rattle.machine.specs.declared.state.VMState.{VMState}
 use Rattle.machine.specs.Words.{Words}
 use Rattle.machine.specs.Ram.{Cells, cells as cellsOf}
@@ -52,6 +52,18 @@ pub record ShowsHelp (m : Machine) (h : HandedHelp) : Type 0 where
 
 pub record HelpsAs (h : HandedHelp) (r : List ℕ) : Type 0 where
   pub is : (m : Machine) → ShowsHelp m h → r ≡ filled (helpersIn (decode (h .opcode)) (h .argument) m)
+
+-- ---- the top sixteen words w, and slices
+
+pub record ReliableTop (w o a d : List ℕ) (taken : ℕ) (c : Cells) : Type 0 where
+  pub slots : length o ≡ length a
+  pub words : Words w
+  pub digests : 5 * taken ≤ length d
+  pub usable : Usable c
+
+-- of the machine that shows them
+pub record HelpersOf (pointer : ℕ) (w o a d : List ℕ) (taken : ℕ) (c : Cells) (r : List ℕ) : Type 0 where
+  pub is : (m : Machine) → ShowsHelp m (handedHelp (getD o pointer 0) (getD a pointer 0) w pointer o d taken c) → m .code .arguments ≡ a → r ≡ helpersAt m
 
 -- ---- registers and slices
 

@@ -10,7 +10,7 @@ ghost use Rattle.machine.specs.Ram.{cells, held};
 ghost use Rattle.machine.specs.Machine.{st};
 ghost use Rattle.machine.specs.Memory.{wordsUp};
 ghost use Rattle.machine.specs.HelperVariables.{filled, argumentBits, nextOpcode, opcodeParts, splitHelper, nextDigest};
-ghost use Rattle.machine_helpers.specs.HelpersView.{handedHelp, ReliableHelp, HelpsAs, Helpable, HelpersAre, Reading};
+ghost use Rattle.machine_helpers.specs.HelpersView.{handedHelp, ReliableHelp, HelpsAs, ReliableTop, HelpersOf, Helpable, HelpersAre, Reading};
 use field::base;
 use machine::state::VMState;
 use machine_effects::effect;
@@ -65,7 +65,7 @@ fn split(w: [u64; 16]) -> [u64; 6]
 // ---- skiz
 
 // 1 where the program ends with the slot at the pointer.
-fn next_opcode(opcodes: &[u64], pointer: u64) -> u64
+pub fn next_opcode(opcodes: &[u64], pointer: u64) -> u64
     requires { ⌜ pointer < length (now opcodes) ⌝ }
     ensures { λ r. ⌜ r ≡ nextOpcode (now (opcodes .entry)) pointer ⌝ }
 {
@@ -183,7 +183,40 @@ fn of_slot(
     }
 }
 
-// Outside the program there is no slot, and they are zeros.
+// Outside the program there is no slot, and they are zeros. w is the top sixteen words.
+pub fn helpers_of(
+    pointer: u64,
+    w: [u64; 16],
+    opcodes: &[u64],
+    arguments: &[u64],
+    digests: &[u64],
+    taken: usize,
+    addresses: &[u64],
+    values: &[u64],
+    count: usize,
+) -> [u64; 6]
+    requires { ⌜ ReliableTop w (now opcodes) (now arguments) (now digests) taken (cells count (now addresses) (now values)) ⌝ }
+    ensures { λ r. ⌜ HelpersOf pointer w (now (opcodes .entry)) (now (arguments .entry)) (now (digests .entry)) taken (cells count (now (addresses .entry)) (now (values .entry))) r ⌝ }
+{
+    let at = pointer as usize;
+    if at < opcodes.len() {
+        of_slot(
+            opcodes[at],
+            arguments[at],
+            w,
+            pointer,
+            opcodes,
+            digests,
+            taken,
+            addresses,
+            values,
+            count,
+        )
+    } else {
+        [0u64; 6]
+    }
+}
+
 pub fn helpers(
     state: VMState,
     opcodes: &[u64],
@@ -196,23 +229,15 @@ pub fn helpers(
     requires { ⌜ Helpable state (now opcodes) (now arguments) (now digests) (now «op_stack») (now addresses) (now values) ⌝ }
     ensures { λ r. ⌜ HelpersAre state (now (opcodes .entry)) (now (arguments .entry)) (now (digests .entry)) (now («op_stack» .entry)) (now (addresses .entry)) (now (values .entry)) r ⌝ }
 {
-    let pointer = state.pointer;
-    let at = pointer as usize;
-    if at < opcodes.len() {
-        let w = top(op_stack, state.depth);
-        of_slot(
-            opcodes[at],
-            arguments[at],
-            w,
-            pointer,
-            opcodes,
-            digests,
-            state.digests,
-            addresses,
-            values,
-            state.cells,
-        )
-    } else {
-        [0u64; 6]
-    }
+    helpers_of(
+        state.pointer,
+        top(op_stack, state.depth),
+        opcodes,
+        arguments,
+        digests,
+        state.digests,
+        addresses,
+        values,
+        state.cells,
+    )
 }

@@ -1,3 +1,3 @@
 -- The laws that the proofs cite.
-pub mod HelpedLaws
+pub mod GivenLaws
 pub mod OpenLaws

@@ -1,3 +1,3 @@
 -- What the contracts cite.
-pub mod HelpedView
+pub mod GivenView
 pub mod OpenView

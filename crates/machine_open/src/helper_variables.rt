@@ -3,7 +3,7 @@ ghost use mathlib.Core.Path.{_≡_};
 ghost use Rattle.machine.specs.Machine.{machine};
 ghost use Rattle.machine.specs.Lent.{codeIn, memoryIn};
 ghost use Rattle.machine.specs.HelperVariables.{helperVariablesOf};
-ghost use Rattle.machine_open.specs.HelpedView.{helpedOf};
+ghost use Rattle.machine_open.specs.GivenView.{helpedOf};
 use machine::state::VMState;
 use machine_helpers::helper_variables::helpers;
 use machine_place_a::checks::check_machine;

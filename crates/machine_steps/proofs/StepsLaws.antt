@@ -1,12 +1,12 @@
--- One turn of the loop of run and trace_execution, and its ends. Assumes nothing.
+-- One turn of the loop of run, trace_execution and trace_rows, and its ends. Assumes nothing.
 use mathlib.Core.Path.{_≡_, refl, sym, ap, subst, _∙_}
-use mathlib.Core.Bool.{Bool, true, false}
+use mathlib.Core.Bool.{Bool, true, false, true≢false}
 use mathlib.Core.List.{List, [], _∷_, _++_, append-assoc, append-nil}
 use Prim.Native.Nat.{ℕ, suc, zero-le, _+_, _-_, _≤_, _<_}
 use native.Mathlib.Omega.{arith}
 use borrow.Author.Tests.{ltb-false}
 use lib.ListN.{length, take, drop, length-append, length-drop}
-use lib.Dec.{ltb}
+use lib.Dec.{eqb, ltb}
 use Rattle.machine.specs.declared.refusal.InstructionError.{InstructionError}
 use Rattle.machine.specs.declared.state.VMState.{VMState}
 use Rattle.choices.specs.Choice.{cond}
@@ -16,14 +16,16 @@ use Rattle.machine.specs.Decide.{decideOf}
 use Rattle.machine.specs.Apply.{Outcome, took, kept, lost, settled}
 use Rattle.machine.specs.Records.{logBytes, stackRecords}
 use Rattle.machine.specs.Step.{recordsIn, steppedBy, outcomeBy}
-use Rattle.machine.specs.Lengths.{mostBytes}
-use Rattle.machine.specs.Path.{Ending, halted, spent, refused, Path, path, count, stays, onward, Space, tooLittle, behind, stepLog, pathBy, logFrom}
+use Rattle.machine.specs.Lengths.{clockBytes, mostBytes}
+use Rattle.machine.specs.ProcessorRow.{rowOf, rowsFrom}
+use Rattle.machine.specs.Path.{the-log, the-table, Ending, halted, spent, full, refused, Path, path, count, stays, onward, Left, lacks, Space, tooLittle, fullOf, behind, stepLog, pathBy, logFrom}
 use Rattle.machine.specs.Sound.{Sound}
 use Rattle.machine.proofs.Facts.{facts}
 use Rattle.machine.proofs.Records.{log-append}
 use Rattle.machine.proofs.Step.{Took as TookBy, step-took, step-sound, step-revision}
 use Rattle.machine.proofs.StepBytes.{stack-records-length, step-few}
 use Rattle.machine.proofs.Path.{path-halted, path-full, path-on}
+use Rattle.machine.proofs.ProcessorRow.{row-length}
 use Rattle.machine_log.specs.Logged.{logged}
 use Rattle.machine_log.proofs.Logged.{logged-none, logged-front, logged-logged, logged-back}
 use Rattle.machine_perform.specs.declared.answer.Answer.the-variants.{Took, Refused}
@@ -31,13 +33,14 @@ use Rattle.machine_perform.specs.declared.answer.Stepped.{Stepped}
 use Rattle.machine_perform.specs.AnswerView.{did, turned, answerIn, Gives}
 use Rattle.machine_quick.specs.declared.quick.QuickStep.{QuickStep}
 use Rattle.machine_quick.specs.QuickView.{onwardTo, StepsTo}
+use Rattle.machine_rows.specs.RowView.{Shown, RowTaken, RowPut}
 use Rattle.machine_step.specs.AdvanceView.{advancedBy, Advanced}
 use Rattle.machine_step.specs.RecordsView.{RoomyAt, RecordedAt}
 use Rattle.machine_steps.specs.declared.answer.Ending.{Ending as EndingIn}
 use Rattle.machine_steps.specs.declared.answer.Ending.the-variants as E
 use Rattle.machine_steps.specs.declared.answer.Ran.{Ran}
-use Rattle.machine_steps.specs.RanView.{endingIn, endOf, RanAs}
-use Rattle.machine_steps.specs.StepsView.{spaceOf, fullOf, ownLog, logOf, StandingAt, logIn, AdvancedAt}
+use Rattle.machine_steps.specs.RanView.{endingIn, endOf, RanOn}
+use Rattle.machine_steps.specs.StepsView.{leftOf, spaceOf, shortOf, endFull, ownLog, logOf, ownRow, rowsOf, StandingAt, logIn, AdvancedAt}
 
 -- ---- the log
 
@@ -54,9 +57,25 @@ unfolding logFrom logBytes
 log-none true m = refl
 log-none false m = refl
 
-space-behind : (t : Bool) (room : ℕ) (m : Machine) → behind (spaceOf t room) (stepLog decideOf m) ≡ spaceOf t (room - length (ownLog t m))
-space-behind true room m = refl
-space-behind false room m = refl
+-- the rows are read off the path as the log is
+row-more : (u : Bool) (m x : Machine) (ms : List Machine) → rowsOf u m (x ∷ ms) ≡ ownRow u m ++ rowsOf u x ms
+unfolding rowsFrom
+row-more true m x ms = refl
+row-more false m x ms = refl
+
+row-none : (u : Bool) (m : Machine) → rowsOf u m [] ≡ []
+unfolding rowsFrom
+row-none true m = refl
+row-none false m = refl
+
+space-behind : (t u : Bool) (room words : ℕ) (m : Machine) → behind (spaceOf t u room words) (stepLog decideOf m) ≡ spaceOf t u (room - length (ownLog t m)) (words - length (ownRow u m))
+space-behind t u room words m = go t u
+  where
+    go : (t u : Bool) → behind (spaceOf t u room words) (stepLog decideOf m) ≡ spaceOf t u (room - length (ownLog t m)) (words - length (ownRow u m))
+    go true true = ap (λ (i : ℕ). spaceOf true true (room - length (stepLog decideOf m)) (words - i)) (sym (row-length m))
+    go true false = refl
+    go false true = ap (λ (i : ℕ). spaceOf false true room (words - i)) (sym (row-length m))
+    go false false = refl
 
 -- ---- a step by its outcome
 
@@ -88,6 +107,50 @@ advanced-at {t} {m} {b} {ys} {at} {r} {n} h a =
       buffer = logged-back b ys (logIn (ownLog t m) (outcomeBy decideOf m)) at h (a .buffer ∙ k .1);
     }
 
+-- ---- what the steps write, one behind the other
+
+-- `all m ms` is what the steps from m through ms write. That of the steps from m0 to m, done, stands from the start of b0 on, and `at` is the place behind it
+pub record Written (all : Machine → List Machine → List ℕ) (b0 : List ℕ) (m0 m : Machine) (done : List Machine) (at : ℕ) (b : List ℕ) : Type 0 where
+  pub text : List ℕ
+  pub place : at ≡ length text
+  pub fits : length text ≤ length b0
+  pub buffer : b ≡ logged b0 0 text
+  pub writes : (ms : List Machine) → all m0 (done ++ ms) ≡ text ++ all m ms
+
+written-none : (all : Machine → List Machine → List ℕ) (b : List ℕ) (m : Machine) → Written all b m m [] 0 b
+written-none all b m = record { text = []; place = refl; fits = omega arith; buffer = logged-none b 0; writes = λ ms. refl }
+
+logged-length : (b r : List ℕ) → length r ≤ length b → length (logged b 0 r) ≡ length b
+logged-length b r h = ap length (logged-front b r) ∙ simp (length-append, length-drop) (omega arith)
+
+module _ {all : Machine → List Machine → List ℕ} {b0 : List ℕ} {m0 m : Machine} {done : List Machine} {at : ℕ} {b : List ℕ} (s : Written all b0 m0 m done at b) where
+  written-length : length b ≡ length b0
+  written-length = ap length (s .buffer) ∙ logged-length b0 (s .text) (s .fits)
+
+  written-within : at ≤ length b
+  written-within = omega (arith, s .place, s .fits, written-length)
+
+  -- a step to x that writes `own`
+  written-more : {x : Machine} {next : ℕ} {b2 : List ℕ} (own : List ℕ) → ((ms : List Machine) → all m (x ∷ ms) ≡ own ++ all x ms) → length own ≤ length b - at → next ≡ at + length own → b2 ≡ logged b at own →
+      Written all b0 m0 x (done ++ (x ∷ [])) next b2
+  written-more {x} {next} {b2} own more small q w =
+      let lens : length (s .text ++ own) ≡ length (s .text) + length own = length-append (s .text) own in
+      record {
+        text = s .text ++ own;
+        place = omega (arith, q, lens, s .place);
+        fits = omega (arith, lens, small, written-length, s .place, s .fits);
+        buffer = w ∙ ap (λ (y : List ℕ). logged y at own) (s .buffer) ∙ logged-logged b0 (s .text) own 0 at (omega arith) (omega (arith, s .place));
+        writes = λ ms.
+            ap (all m0) (append-assoc done (x ∷ []) ms)
+            ∙ s .writes (x ∷ ms)
+            ∙ ap (λ (i : List ℕ). s .text ++ i) (more ms)
+            ∙ sym (append-assoc (s .text) own (all x ms));
+      }
+
+  -- where no step is left it is all of them
+  written-all : {ms : List Machine} → all m [] ≡ [] → done ++ [] ≡ ms → s .text ≡ all m0 ms
+  written-all e u = sym (append-nil (s .text)) ∙ ap (λ (i : List ℕ). s .text ++ i) (sym e) ∙ sym (s .writes []) ∙ ap (all m0) u
+
 -- ---- the loop
 
 -- the machines ms, and behind them the path p
@@ -95,12 +158,13 @@ abbrev ahead : List Machine → Path → Path
 ahead ms p = path (ms ++ p .machines) (p .left) (p .dropped) (p .ending)
 
 -- the whole path
-abbrev whole : Bool → ℕ → List ℕ → Machine → Path
-whole t budget b0 m0 = pathBy decideOf (spaceOf t (length b0)) budget m0
+abbrev whole : Bool → Bool → ℕ → List ℕ → List ℕ → Machine → Path
+whole t u budget b0 w0 m0 = pathBy decideOf (spaceOf t u (length b0) (length w0)) budget m0
 
 -- what the code gives at the end
-abbrev pub Ended : Bool → ℕ → List ℕ → Machine → Code → Ran → Memory → List ℕ → Type 0
-Ended t budget b0 m0 c r n b2 = RanAs (whole t budget b0 m0) (logOf t m0 (whole t budget b0 m0 .machines)) c b0 r n b2
+abbrev pub Ended : Bool → Bool → ℕ → List ℕ → List ℕ → Machine → Code → Ran → Memory → List ℕ → List ℕ → Type 0
+Ended t u budget b0 w0 m0 c r n b2 w2 =
+    RanOn (whole t u budget b0 w0 m0) (logOf t m0 (whole t u budget b0 w0 m0 .machines)) (rowsOf u m0 (whole t u budget b0 w0 m0 .machines)) c b0 w0 r n b2 w2
 
 -- no step is left of the budget
 path-none : (s : Space) (m : Machine) → pathBy decideOf s 0 m ≡ stays (endingIn (endOf (m .state .halted))) m
@@ -111,26 +175,22 @@ path-none s m = go (m .state .halted)
     go true = refl
     go false = refl
 
--- after k of a budget's steps from m0 the machine is m and the log b, and what is left makes the whole path
-pub record Going (t : Bool) (budget most : ℕ) (b0 : List ℕ) (m0 m : Machine) (k at : ℕ) (b : List ℕ) : Type 0 where
-  -- the most bytes that a step writes: no step changes the revision
-  pub most-is : most ≡ mostBytes (m .state .revision)
+-- after k of a budget's steps from m0 the machine is m, the log b and the table w, and what is left makes the whole path
+pub record Going (t u : Bool) (budget : ℕ) (b0 w0 : List ℕ) (m0 m : Machine) (k at filled : ℕ) (b w : List ℕ) : Type 0 where
   pub few : k ≤ budget
   pub sound : Sound m
   pub done : List Machine
   pub counted : k ≡ length done
-  pub log : List ℕ
-  pub place : at ≡ length log
-  pub fits : length log ≤ length b0
-  pub buffer : b ≡ logged b0 0 log
-  pub logs : (ms : List Machine) → logOf t m0 (done ++ ms) ≡ log ++ logOf t m ms
-  pub is : ahead done (pathBy decideOf (spaceOf t (length b0 - at)) (budget - k) m) ≡ whole t budget b0 m0
+  pub log : Written (logOf t) b0 m0 m done at b
+  pub table : Written (rowsOf u) w0 m0 m done filled w
+  pub is : ahead done (pathBy decideOf (spaceOf t u (length b0 - at) (length w0 - filled)) (budget - k) m) ≡ whole t u budget b0 w0 m0
 
-pub steps-start : (t : Bool) (budget most : ℕ) (b : List ℕ) (m : Machine) → most ≡ mostBytes (m .state .revision) → Sound m → Going t budget most b m m 0 0 b
-steps-start t budget most b m q s =
+pub steps-start : (t u : Bool) (budget : ℕ) (b w : List ℕ) (m : Machine) → Sound m → Going t u budget b w m m 0 0 0 b w
+steps-start t u budget b w m s =
     let e : budget - 0 ≡ budget = omega arith in
     let h : length b - 0 ≡ length b = omega arith in
-    record { most-is = q; few = omega arith; sound = s; done = []; counted = refl; log = []; place = refl; fits = omega arith; buffer = logged-none b 0; logs = λ ms. refl; is = rw (e, h) }
+    let i : length w - 0 ≡ length w = omega arith in
+    record { few = omega arith; sound = s; done = []; counted = refl; log = written-none (logOf t) b m; table = written-none (rowsOf u) w m; is = rw (e, h, i) }
 
 took-log : (m x : Machine) → Sound m → outcomeBy decideOf m ≡ took x → length (stepLog decideOf m) ≤ mostBytes (m .state .revision)
 unfolding stepLog
@@ -139,133 +199,179 @@ took-log m x s h = of (step-took decideOf m x h)
     of : TookBy m (decideOf m) x → length (logBytes (m .state .revision) (recordsIn m (decideOf m))) ≤ mostBytes (m .state .revision)
     of k = rw (k .acting) (step-few m s (k .effect) (k .acting))
 
--- a log that is not full has room for what a step writes
-own-fits : (t : Bool) (m : Machine) (room most : ℕ) → length (stepLog decideOf m) ≤ most → fullOf t room most ≡ false → length (ownLog t m) ≤ room
-own-fits true m room most h l = let k = ltb-false room most l in omega arith
-own-fits false m room most h l = zero-le
+-- where not less is left than what is asked for needs, it fits
+own-fits : (t : Bool) (own : List ℕ) (room most : ℕ) → length own ≤ most → lacks (leftOf t room) most ≡ false → length (cond t own []) ≤ room
+own-fits true own room most h l = let k = ltb-false room most l in omega arith
+own-fits false own room most h l = zero-le
 
--- full, as a path has it
-full-is : (t : Bool) (v room most : ℕ) → most ≡ mostBytes v → fullOf t room most ≡ tooLittle v (spaceOf t room)
-full-is true v room most e = ap (ltb room) e
-full-is false v room most e = refl
+-- in either revision
+pub most-few : (v : ℕ) → mostBytes v ≤ 1028
+unfolding mostBytes clockBytes
+most-few v = go (eqb v 2)
+  where
+    go : (t : Bool) → 1024 + cond t 4 0 ≤ 1028
+    go true = omega arith
+    go false = omega arith
 
-logged-length : (b r : List ℕ) → length r ≤ length b → length (logged b 0 r) ≡ length b
-logged-length b r h = ap length (logged-front b r) ∙ simp (length-append, length-drop) (omega arith)
+-- neither log nor table is short
+not-short : (x y : Bool) → cond x true y ≡ false → (x ≡ false) × (y ≡ false)
+not-short true y h = absurd (true≢false h)
+not-short false y h = (refl, h)
+
+end-full : (t : Bool) (v : ℕ) (s : Space) (room most : ℕ) → s .log ≡ leftOf t room → most ≡ mostBytes v → endingIn (endFull t room most) ≡ full (fullOf v s)
+end-full t v s room most e q = go (lacks (leftOf t room) most) ∙ ap (λ (x : Bool). full (cond x the-log the-table)) (ap (lacks (leftOf t room)) q ∙ ap (λ (l : Left). lacks l (mostBytes v)) (sym e))
+  where
+    go : (x : Bool) → endingIn (cond x E.Full E.TableFull) ≡ full (cond x the-log the-table)
+    go true = refl
+    go false = refl
 
 -- a step's stack records, as what it writes
 moved-log : (t : Bool) (m : Machine) (r : QuickStep) (w2 : List ℕ) → StepsTo m r w2 → cond t (logBytes (m .state .revision) (stackRecords (m .state .clock) w2 w2 (m .state .depth) (r .depth))) [] ≡ ownLog t m
 unfolding stepLog
 moved-log t m r w2 s = rw (s .records)
 
-module _ {t : Bool} {budget most : ℕ} {b0 : List ℕ} {m0 m : Machine} {k at : ℕ} {b : List ℕ} (s : Going t budget most b0 m0 m k at b) where
-  pub steps-length : length b ≡ length b0
-  steps-length = ap length (s .buffer) ∙ logged-length b0 (s .log) (s .fits)
+-- a row that was taken, as what it writes
+row-own : (u : Bool) (m : Machine) (row : List ℕ) → (u ≡ true → row ≡ rowOf m) → cond u row [] ≡ ownRow u m
+row-own true m row h = h refl
+row-own false m row h = refl
+
+module _ {t u : Bool} {budget : ℕ} {b0 w0 : List ℕ} {m0 m : Machine} {k at filled : ℕ} {b w : List ℕ} (s : Going t u budget b0 w0 m0 m k at filled b w) where
+  -- the most bytes that a step writes
+  abbrev most : ℕ
+  most = mostBytes (m .state .revision)
 
   pub steps-within : at ≤ length b
-  steps-within = omega (arith, s .place, s .fits, steps-length)
+  steps-within = written-within (s .log)
 
-  -- what is written is the log of the whole path, where no step is left
-  log-done : (x : Machine) (d : Bool) (e : Ending) → ahead (s .done) (path [] x d e) ≡ whole t budget b0 m0 → s .log ≡ logOf t m0 (whole t budget b0 m0 .machines)
-  log-done x d e u =
-      sym (append-nil (s .log))
-      ∙ ap (λ (i : List ℕ). s .log ++ i) (sym (log-none t m))
-      ∙ sym (s .logs [])
-      ∙ ap (λ (p : Path). logOf t m0 (p .machines)) u
+  pub rows-within : filled ≤ length w
+  rows-within = written-within (s .table)
 
   -- the end: the answer and what is left are those of a path that takes no further step
-  ended : (e : EndingIn) (r : VMState) (n : Memory) (b2 : List ℕ) (x : Machine) (d : Bool) → ahead (s .done) (path [] x d (endingIn e)) ≡ whole t budget b0 m0 → machine r (m .code) n ≡ x → b2 ≡ b →
-      Ended t budget b0 m0 (m .code) (record { count = k; ending = e; state = r; bytes = at }) n b2
-  ended e r n b2 x d u l j =
-      let all = log-done x d (endingIn e) u in
+  ended : (e : EndingIn) (r : VMState) (n : Memory) (b2 : List ℕ) (x : Machine) (d : Bool) → ahead (s .done) (path [] x d (endingIn e)) ≡ whole t u budget b0 w0 m0 → machine r (m .code) n ≡ x → b2 ≡ b →
+      Ended t u budget b0 w0 m0 (m .code) (record { count = k; ending = e; state = r; bytes = at }) n b2 w
+  ended e r n b2 x d y l j =
+      let ms = ap (λ (p : Path). p .machines) y in
+      let all = written-all (s .log) (log-none t m) ms in
       record {
-        steps = s .counted ∙ ap length (sym (append-nil (s .done))) ∙ ap (λ (p : Path). count p) u;
-        ending = ap (λ (p : Path). p .ending) u;
-        left = l ∙ ap (λ (p : Path). p .left) u;
-        bytes = s .place ∙ ap length all;
-        buffer = j ∙ s .buffer ∙ ap (logged b0 0) all;
+        ran = record {
+          steps = s .counted ∙ ap length (sym (append-nil (s .done))) ∙ ap (λ (p : Path). count p) y;
+          ending = ap (λ (p : Path). p .ending) y;
+          left = l ∙ ap (λ (p : Path). p .left) y;
+          bytes = s .log .place ∙ ap length all;
+          buffer = j ∙ s .log .buffer ∙ ap (logged b0 0) all;
+        };
+        table = s .table .buffer ∙ ap (logged w0 0) (written-all (s .table) (row-none u m) ms);
       }
 
   -- no step is tried
-  stayed : (e : EndingIn) → pathBy decideOf (spaceOf t (length b0 - at)) (budget - k) m ≡ stays (endingIn e) m → Ended t budget b0 m0 (m .code) (record { count = k; ending = e; state = m .state; bytes = at }) (m .memory) b
+  stayed : (e : EndingIn) → pathBy decideOf (spaceOf t u (length b0 - at) (length w0 - filled)) (budget - k) m ≡ stays (endingIn e) m →
+      Ended t u budget b0 w0 m0 (m .code) (record { count = k; ending = e; state = m .state; bytes = at }) (m .memory) b w
   stayed e h = ended e (m .state) (m .memory) b m false (ap (ahead (s .done)) (sym h) ∙ s .is) refl refl
 
-  path-full-is : fullOf t (length b - at) most ≡ tooLittle (m .state .revision) (spaceOf t (length b0 - at))
-  path-full-is = ap (λ (i : ℕ). fullOf t (i - at) most) steps-length ∙ full-is t (m .state .revision) (length b0 - at) most (s .most-is)
+  path-short-is : shortOf t (length b - at) most u (length w - filled) ≡ tooLittle (m .state .revision) (spaceOf t u (length b0 - at) (length w0 - filled))
+  path-short-is =
+      ap (λ (i : ℕ). shortOf t (i - at) most u (length w - filled)) (written-length (s .log))
+      ∙ ap (λ (i : ℕ). shortOf t (length b0 - at) most u (i - filled)) (written-length (s .table))
 
-  pub steps-fill : k < budget → m .state .halted ≡ false → fullOf t (length b - at) most ≡ true → Ended t budget b0 m0 (m .code) (record { count = k; ending = E.Full; state = m .state; bytes = at }) (m .memory) b
-  steps-fill h on l =
-      let e : budget - k ≡ suc (budget - (k + 1)) = omega arith in
-      let r : tooLittle (m .state .revision) (spaceOf t (length b0 - at)) ≡ true = sym path-full-is ∙ l in
-      stayed E.Full (ap (λ (i : ℕ). pathBy decideOf (spaceOf t (length b0 - at)) i m) e ∙ path-full decideOf (spaceOf t (length b0 - at)) (budget - (k + 1)) m on r)
+  pub steps-fill : {e : EndingIn} → k < budget → m .state .halted ≡ false → shortOf t (length b - at) (mostBytes (m .state .revision)) u (length w - filled) ≡ true → e ≡ endFull t (length b - at) (mostBytes (m .state .revision)) →
+      Ended t u budget b0 w0 m0 (m .code) (record { count = k; ending = e; state = m .state; bytes = at }) (m .memory) b w
+  steps-fill {e} h on l q =
+      let z : budget - k ≡ suc (budget - (k + 1)) = omega arith in
+      let c = spaceOf t u (length b0 - at) (length w0 - filled) in
+      let r : tooLittle (m .state .revision) c ≡ true = sym path-short-is ∙ l in
+      let j : endingIn e ≡ full (fullOf (m .state .revision) c) = ap endingIn (q ∙ ap (λ (i : ℕ). endFull t (i - at) most) (written-length (s .log))) ∙ end-full t (m .state .revision) c (length b0 - at) most refl refl in
+      stayed e (ap (λ (i : ℕ). pathBy decideOf c i m) z ∙ path-full decideOf c (budget - (k + 1)) m on r ∙ ap (λ (i : Ending). stays i m) (sym j))
 
-  pub steps-halt : {e : EndingIn} → e ≡ endOf (m .state .halted) → m .state .halted ≡ true → Ended t budget b0 m0 (m .code) (record { count = k; ending = e; state = m .state; bytes = at }) (m .memory) b
-  steps-halt {e} is h = stayed e (path-halted decideOf (spaceOf t (length b0 - at)) (budget - k) m h ∙ ap (λ (i : Ending). stays i m) (sym (ap endingIn is ∙ ap (λ (z : Bool). endingIn (endOf z)) h)))
+  pub steps-halt : {e : EndingIn} → e ≡ endOf (m .state .halted) → m .state .halted ≡ true → Ended t u budget b0 w0 m0 (m .code) (record { count = k; ending = e; state = m .state; bytes = at }) (m .memory) b w
+  steps-halt {e} is h = stayed e (path-halted decideOf (spaceOf t u (length b0 - at) (length w0 - filled)) (budget - k) m h ∙ ap (λ (i : Ending). stays i m) (sym (ap endingIn is ∙ ap (λ (z : Bool). endingIn (endOf z)) h)))
 
-  pub steps-spend : {e : EndingIn} → e ≡ endOf (m .state .halted) → budget ≤ k → Ended t budget b0 m0 (m .code) (record { count = k; ending = e; state = m .state; bytes = at }) (m .memory) b
+  pub steps-spend : {e : EndingIn} → e ≡ endOf (m .state .halted) → budget ≤ k → Ended t u budget b0 w0 m0 (m .code) (record { count = k; ending = e; state = m .state; bytes = at }) (m .memory) b w
   steps-spend {e} is h =
       let z : budget - k ≡ 0 = omega arith in
-      stayed e (ap (λ (i : ℕ). pathBy decideOf (spaceOf t (length b0 - at)) i m) z ∙ path-none (spaceOf t (length b0 - at)) m ∙ ap (λ (i : EndingIn). stays (endingIn i) m) (sym is))
+      let c = spaceOf t u (length b0 - at) (length w0 - filled) in
+      stayed e (ap (λ (i : ℕ). pathBy decideOf c i m) z ∙ path-none c m ∙ ap (λ (i : EndingIn). stays (endingIn i) m) (sym is))
 
-  module _ (h : k < budget) (on : m .state .halted ≡ false) (roomy : fullOf t (length b - at) most ≡ false) where
-    next : (o : Outcome) → outcomeBy decideOf m ≡ o → ahead (s .done) (onward m (λ x. pathBy decideOf (spaceOf t (length b0 - at - length (ownLog t m))) (budget - (k + 1)) x) o) ≡ whole t budget b0 m0
+  module _ (h : k < budget) (on : m .state .halted ≡ false) (roomy : shortOf t (length b - at) (mostBytes (m .state .revision)) u (length w - filled) ≡ false) where
+    next : (o : Outcome) → outcomeBy decideOf m ≡ o →
+        ahead (s .done) (onward m (λ x. pathBy decideOf (spaceOf t u (length b0 - at - length (ownLog t m)) (length w0 - filled - length (ownRow u m))) (budget - (k + 1)) x) o) ≡ whole t u budget b0 w0 m0
     next o e =
-        let u : budget - k ≡ suc (budget - (k + 1)) = omega arith in
-        let l : tooLittle (m .state .revision) (spaceOf t (length b0 - at)) ≡ false = sym path-full-is ∙ roomy in
-        ap (λ (r : Space). ahead (s .done) (onward m (λ x. pathBy decideOf r (budget - (k + 1)) x) o)) (sym (space-behind t (length b0 - at) m))
-        ∙ ap (ahead (s .done)) (sym (path-on decideOf (spaceOf t (length b0 - at)) (budget - (k + 1)) m o on l e))
-        ∙ ap (λ (i : ℕ). ahead (s .done) (pathBy decideOf (spaceOf t (length b0 - at)) i m)) (sym u)
+        let z : budget - k ≡ suc (budget - (k + 1)) = omega arith in
+        let c = spaceOf t u (length b0 - at) (length w0 - filled) in
+        let l : tooLittle (m .state .revision) c ≡ false = sym path-short-is ∙ roomy in
+        ap (λ (r : Space). ahead (s .done) (onward m (λ x. pathBy decideOf r (budget - (k + 1)) x) o)) (sym (space-behind t u (length b0 - at) (length w0 - filled) m))
+        ∙ ap (ahead (s .done)) (sym (path-on decideOf c (budget - (k + 1)) m o on l e))
+        ∙ ap (λ (i : ℕ). ahead (s .done) (pathBy decideOf c i m)) (sym z)
         ∙ s .is
+
+    enough : (lacks (leftOf t (length b - at)) most ≡ false) × (lacks (leftOf u (length w - filled)) 37 ≡ false)
+    enough = not-short (lacks (leftOf t (length b - at)) most) (lacks (leftOf u (length w - filled)) 37) roomy
 
     room-in : t ≡ true → at + mostBytes (m .state .revision) ≤ length b
     room-in y =
-        let z : ltb (length b - at) most ≡ false = rw y at roomy in
-        let u = ltb-false (length b - at) most z in
-        omega (arith, u, steps-within, s .most-is)
+        let z : ltb (length b - at) most ≡ false = rw y at (enough .0) in
+        let v = ltb-false (length b - at) most z in
+        omega (arith, v, steps-within)
+
+    -- room for a row
+    pub row-room : u ≡ true → filled + 37 ≤ length w
+    row-room y =
+        let z : ltb (length w - filled) 37 ≡ false = rw y at (enough .1) in
+        let v = ltb-false (length w - filled) 37 z in
+        omega (arith, v, rows-within)
 
     pub steps-stand : StandingAt t m b at
     steps-stand = record { sound = s .sound; within = steps-within; room = room-in }
 
     -- the step is taken
-    steps-go-on : {x : Machine} {next-at : ℕ} {b2 : List ℕ} → outcomeBy decideOf m ≡ took x → next-at ≡ at + length (ownLog t m) → b2 ≡ logged b at (ownLog t m) → Going t budget most b0 m0 x (k + 1) next-at b2
-    steps-go-on {x} {next-at} {b2} e q w =
-        let small = own-fits t m (length b - at) most (rw (s .most-is) (took-log m x (s .sound) e)) roomy in
-        let lens : length (s .log ++ ownLog t m) ≡ length (s .log) + length (ownLog t m) = length-append (s .log) (ownLog t m) in
+    steps-go-on : {x : Machine} {next-at next-row : ℕ} {b2 w2 row : List ℕ} → outcomeBy decideOf m ≡ took x → next-at ≡ at + length (ownLog t m) → b2 ≡ logged b at (ownLog t m) →
+        (u ≡ true → row ≡ rowOf m) → RowPut u w filled row w2 next-row → Going t u budget b0 w0 m0 x (k + 1) next-at next-row b2 w2
+    steps-go-on {x} {next-at} {next-row} {b2} {w2} {row} e q j taken put =
+        let own = row-own u m row taken in
+        let row-at : next-row ≡ filled + length (ownRow u m) = put .place ∙ ap (λ (i : List ℕ). filled + length i) own in
         let more : length (s .done ++ (x ∷ [])) ≡ length (s .done) + 1 = length-append (s .done) (x ∷ []) in
         let rest : length b0 - at - length (ownLog t m) ≡ length b0 - next-at = omega (arith, q) in
-        let p = pathBy decideOf (spaceOf t (length b0 - next-at)) (budget - (k + 1)) x in
+        let rest-row : length w0 - filled - length (ownRow u m) ≡ length w0 - next-row = omega (arith, row-at) in
+        let p = pathBy decideOf (spaceOf t u (length b0 - next-at) (length w0 - next-row)) (budget - (k + 1)) x in
         record {
-          most-is = s .most-is ∙ ap mostBytes (sym (step-revision decideOf m x e));
           few = omega arith;
           sound = step-sound decideOf facts m x (s .sound) e;
           done = s .done ++ (x ∷ []);
           counted = omega (arith, s .counted, more);
-          log = s .log ++ ownLog t m;
-          place = omega (arith, q, lens, s .place);
-          fits = omega (arith, lens, small, steps-length, s .place, s .fits);
-          buffer = w ∙ ap (λ (y : List ℕ). logged y at (ownLog t m)) (s .buffer) ∙ logged-logged b0 (s .log) (ownLog t m) 0 at (omega arith) (omega (arith, s .place));
-          logs = λ ms.
-              ap (logOf t m0) (append-assoc (s .done) (x ∷ []) ms)
-              ∙ s .logs (x ∷ ms)
-              ∙ ap (λ (i : List ℕ). s .log ++ i) (log-more t m x ms e)
-              ∙ sym (append-assoc (s .log) (ownLog t m) (logOf t x ms));
+          log = written-more (s .log) (ownLog t m) (λ ms. log-more t m x ms e) (own-fits t (stepLog decideOf m) (length b - at) most (took-log m x (s .sound) e) (enough .0)) q j;
+          table = written-more (s .table) (ownRow u m) (row-more u m x) (own-fits u (rowOf m) (length w - filled) 37 (omega (arith, row-length m)) (enough .1)) row-at (put .table ∙ ap (logged w filled) own);
           is =
               ap (λ (i : List Machine). path i (p .left) (p .dropped) (p .ending)) (append-assoc (s .done) (x ∷ []) (p .machines))
-              ∙ ap (λ (i : ℕ). ahead (s .done) (onward m (λ y. pathBy decideOf (spaceOf t i) (budget - (k + 1)) y) (took x))) (sym rest)
+              ∙ ap (λ (i : ℕ). ahead (s .done) (onward m (λ y. pathBy decideOf (spaceOf t u i (length w0 - next-row)) (budget - (k + 1)) y) (took x))) (sym rest)
+              ∙ ap (λ (i : ℕ). ahead (s .done) (onward m (λ y. pathBy decideOf (spaceOf t u (length b0 - at - length (ownLog t m)) i) (budget - (k + 1)) y) (took x))) (sym rest-row)
               ∙ next (took x) e;
         }
 
-    pub steps-go : {r : Stepped} {n : Memory} {b2 : List ℕ} → r .answer ≡ Took → AdvancedAt t m b at r n b2 → Going t budget most b0 m0 (machine (r .state) (m .code) n) (k + 1) (at + r .bytes) b2
-    steps-go {r} {n} {b2} a y = go (outcomeBy decideOf m) refl
+    -- what the code of a step gives that is taken
+    went : {r : Stepped} {n : Memory} {b2 : List ℕ} → r .answer ≡ Took → AdvancedAt t m b at r n b2 →
+        (outcomeBy decideOf m ≡ took (machine (r .state) (m .code) n)) × (r .bytes ≡ length (ownLog t m)) × (b2 ≡ logged b at (ownLog t m))
+    went {r} {n} {b2} a y = go (outcomeBy decideOf m) refl
       where
         did-take : answerIn (r .answer) ≡ did
         did-take = ap answerIn a
 
-        go : (o : Outcome) → outcomeBy decideOf m ≡ o → Going t budget most b0 m0 (machine (r .state) (m .code) n) (k + 1) (at + r .bytes) b2
-        go (took z) e =
-            let w : machine (r .state) (m .code) n ≡ z = rw e at (y .gives .left) in
-            subst (λ (x : Machine). Going t budget most b0 m0 x (k + 1) (at + r .bytes) b2) (sym w) (steps-go-on e (ap (λ (i : ℕ). at + i) (rw e at (y .bytes))) (rw e at (y .buffer)))
-        go (kept z) e = let u = sym did-take ∙ (rw e at (y .gives .answer)) in let v : _≡_ {A = ℕ} 0 1 = cc in absurd (omega arith)
-        go (lost z w) e = let u = sym did-take ∙ (rw e at (y .gives .answer)) in let v : _≡_ {A = ℕ} 0 1 = cc in absurd (omega arith)
+        go : (o : Outcome) → outcomeBy decideOf m ≡ o → (outcomeBy decideOf m ≡ took (machine (r .state) (m .code) n)) × (r .bytes ≡ length (ownLog t m)) × (b2 ≡ logged b at (ownLog t m))
+        go (took z) e = let l : machine (r .state) (m .code) n ≡ z = rw e at (y .gives .left) in (e ∙ ap took (sym l), rw e at (y .bytes), rw e at (y .buffer))
+        go (kept z) e = let c = sym did-take ∙ (rw e at (y .gives .answer)) in let v : _≡_ {A = ℕ} 0 1 = cc in absurd (omega arith)
+        go (lost z x) e = let c = sym did-take ∙ (rw e at (y .gives .answer)) in let v : _≡_ {A = ℕ} 0 1 = cc in absurd (omega arith)
+
+    module _ {r : Stepped} {n : Memory} {b2 : List ℕ} (a : r .answer ≡ Took) (y : AdvancedAt t m b at r n b2) where
+      pub steps-fit : at + r .bytes ≤ length b
+      steps-fit =
+          let w = went a y in
+          let small = own-fits t (stepLog decideOf m) (length b - at) most (took-log m _ (s .sound) (w .0)) (enough .0) in
+          omega (arith, w .1, small, steps-within)
+
+      pub steps-sound : Sound (machine (r .state) (m .code) n)
+      steps-sound = step-sound decideOf facts m _ (s .sound) (went a y .0)
+
+      pub steps-go : {w2 row : List ℕ} {next-row : ℕ} → (u ≡ true → row ≡ rowOf m) → RowPut u w filled row w2 next-row →
+          Going t u budget b0 w0 m0 (machine (r .state) (m .code) n) (k + 1) (at + r .bytes) next-row b2 w2
+      steps-go taken put = let v = went a y in steps-go-on (v .0) (ap (λ (i : ℕ). at + i) (v .1)) (v .2) taken put
 
     -- a quick step, and room for its records
     module _ {r : QuickStep} {w2 : List ℕ} (y : StepsTo m r w2) where
@@ -280,32 +386,39 @@ module _ {t : Bool} {budget most : ℕ} {b0 : List ℕ} {m0 m : Machine} {k at :
             room = λ z. omega (arith, size, small, room-in z);
           }
 
-      pub steps-quick : {next-at : ℕ} {b2 : List ℕ} → RecordedAt t b b2 at (stackRecords (m .state .clock) w2 w2 (m .state .depth) (r .depth)) next-at →
-          Going t budget most b0 m0 (machine (onwardTo (m .state) r) (m .code) (memory w2 (m .memory .origins) (m .memory .destinations) (m .memory .addresses) (m .memory .values) (m .memory .output))) (k + 1) next-at b2
-      steps-quick z =
-          let l = moved-log t m r w2 y in
-          steps-go-on (y .outcome) (z .place (m .state .revision) ∙ ap (λ (i : List ℕ). at + length i) l) (z .buffer (m .state .revision) ∙ ap (logged b at) l)
+      pub quick-sound : Sound (machine (onwardTo (m .state) r) (m .code) (memory w2 (m .memory .origins) (m .memory .destinations) (m .memory .addresses) (m .memory .values) (m .memory .output)))
+      quick-sound = step-sound decideOf facts m _ (s .sound) (y .outcome)
 
-    -- a refused step ends it, with the log as it was
-    pub steps-stop : {r : Stepped} {n : Memory} {b2 : List ℕ} {w : InstructionError} → r .answer ≡ Refused w → AdvancedAt t m b at r n b2 →
-        Ended t budget b0 m0 (m .code) (record { count = k; ending = E.Refused w; state = r .state; bytes = at }) n b2
-    steps-stop {r} {n} {b2} {w} a y = go (outcomeBy decideOf m) refl
+      pub steps-quick : {next-at next-row : ℕ} {b2 t2 row : List ℕ} → RecordedAt t b b2 at (stackRecords (m .state .clock) w2 w2 (m .state .depth) (r .depth)) next-at → (u ≡ true → row ≡ rowOf m) → RowPut u w filled row t2 next-row →
+          Going t u budget b0 w0 m0 (machine (onwardTo (m .state) r) (m .code) (memory w2 (m .memory .origins) (m .memory .destinations) (m .memory .addresses) (m .memory .values) (m .memory .output))) (k + 1) next-at next-row b2 t2
+      steps-quick z taken put =
+          let l = moved-log t m r w2 y in
+          steps-go-on (y .outcome) (z .place (m .state .revision) ∙ ap (λ (i : List ℕ). at + length i) l) (z .buffer (m .state .revision) ∙ ap (logged b at) l) taken put
+
+    -- a refused step ends it, with log and table as they were
+    pub steps-stop : {r : Stepped} {n : Memory} {b2 : List ℕ} {q : InstructionError} → r .answer ≡ Refused q → AdvancedAt t m b at r n b2 →
+        Ended t u budget b0 w0 m0 (m .code) (record { count = k; ending = E.Refused q; state = r .state; bytes = at }) n b2 w
+    steps-stop {r} {n} {b2} {q} a y = go (outcomeBy decideOf m) refl
       where
-        did-turn : answerIn (r .answer) ≡ turned (refusalOf w)
+        did-turn : answerIn (r .answer) ≡ turned (refusalOf q)
         did-turn = ap answerIn a
 
-        ending : (x : Machine) (d : Bool) (z : Refusal) → turned (refusalOf w) ≡ turned z → machine (r .state) (m .code) n ≡ x → b2 ≡ logged b at [] → ahead (s .done) (path [] x d (refused z)) ≡ whole t budget b0 m0 →
-            Ended t budget b0 m0 (m .code) (record { count = k; ending = E.Refused w; state = r .state; bytes = at }) n b2
-        ending x d z q l p u =
-            let same : refusalOf w ≡ z = cc q in
-            ended (E.Refused w) (r .state) n b2 x d (ap (λ (i : Refusal). ahead (s .done) (path [] x d (refused i))) same ∙ u) l (p ∙ sym (logged-none b at))
+        ending : (x : Machine) (d : Bool) (z : Refusal) → turned (refusalOf q) ≡ turned z → machine (r .state) (m .code) n ≡ x → b2 ≡ logged b at [] → ahead (s .done) (path [] x d (refused z)) ≡ whole t u budget b0 w0 m0 →
+            Ended t u budget b0 w0 m0 (m .code) (record { count = k; ending = E.Refused q; state = r .state; bytes = at }) n b2 w
+        ending x d z c l p v =
+            let same : refusalOf q ≡ z = cc c in
+            ended (E.Refused q) (r .state) n b2 x d (ap (λ (i : Refusal). ahead (s .done) (path [] x d (refused i))) same ∙ v) l (p ∙ sym (logged-none b at))
 
-        go : (o : Outcome) → outcomeBy decideOf m ≡ o → Ended t budget b0 m0 (m .code) (record { count = k; ending = E.Refused w; state = r .state; bytes = at }) n b2
-        go (took z) e = let u = sym did-turn ∙ (rw e at (y .gives .answer)) in let v : _≡_ {A = ℕ} 0 1 = cc in absurd (omega arith)
+        go : (o : Outcome) → outcomeBy decideOf m ≡ o → Ended t u budget b0 w0 m0 (m .code) (record { count = k; ending = E.Refused q; state = r .state; bytes = at }) n b2 w
+        go (took z) e = let c = sym did-turn ∙ (rw e at (y .gives .answer)) in let v : _≡_ {A = ℕ} 0 1 = cc in absurd (omega arith)
         go (kept z) e = ending m false z (sym did-turn ∙ (rw e at (y .gives .answer))) (rw e at (y .gives .left)) (rw e at (y .buffer)) (next (kept z) e)
         go (lost z x) e = ending x true z (sym did-turn ∙ (rw e at (y .gives .answer))) (rw e at (y .gives .left)) (rw e at (y .buffer)) (next (lost z x) e)
 
 -- the op stack as it was
-pub steps-kept : {t : Bool} {budget most : ℕ} {b0 : List ℕ} {m0 : Machine} {c : Code} {stack after from to a v o : List ℕ} {k at : ℕ} {b : List ℕ} {s : _} → after ≡ stack →
-    Going t budget most b0 m0 (machine s c (memory stack from to a v o)) k at b → Going t budget most b0 m0 (machine s c (memory after from to a v o)) k at b
-steps-kept {t} {budget} {most} {b0} {m0} {c} {stack} {after} {from} {to} {a} {v} {o} {k} {at} {b} {s} e r = subst (λ (x : List ℕ). Going t budget most b0 m0 (machine s c (memory x from to a v o)) k at b) (sym e) r
+pub steps-kept : {t u : Bool} {budget : ℕ} {b0 w0 : List ℕ} {m0 : Machine} {c : Code} {stack after from to a v o : List ℕ} {k at filled : ℕ} {b w : List ℕ} {s : VMState} → after ≡ stack →
+    Going t u budget b0 w0 m0 (machine s c (memory stack from to a v o)) k at filled b w → Going t u budget b0 w0 m0 (machine s c (memory after from to a v o)) k at filled b w
+steps-kept {t} {u} {budget} {b0} {w0} {m0} {c} {stack} {after} {from} {to} {a} {v} {o} {k} {at} {filled} {b} {w} {s} e r = subst (λ (x : List ℕ). Going t u budget b0 w0 m0 (machine s c (memory x from to a v o)) k at filled b w) (sym e) r
+
+-- and a row that was taken before
+pub row-kept : {u : Bool} {n : Shown} {o a d stack after from to x v row : List ℕ} → after ≡ stack → RowTaken u n o a d stack from to x v row → RowTaken u n o a d after from to x v row
+row-kept {u} {n} {o} {a} {d} {stack} {after} {from} {to} {x} {v} {row} e h = subst (λ (y : List ℕ). RowTaken u n o a d y from to x v row) (sym e) h

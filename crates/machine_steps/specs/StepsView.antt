@@ -1,33 +1,42 @@
--- Steps behind place A, with their records in a lent log or without: what the code of run and of trace_execution share.
+-- Steps behind place A, with or without their records in a lent log and their rows in a lent table: what the code of run, trace_execution and trace_rows
+-- share.
 use Prim.Native.Nat.{ℕ, _+_, _≤_}
 use mathlib.Core.Path.{_≡_}
 use mathlib.Core.Bool.{Bool, true, false}
 use mathlib.Core.List.{List, []}
 use lib.ListN.{length}
-use lib.Dec.{ltb}
 use Rattle.choices.specs.Choice.{cond}
 use Rattle.machine.specs.Machine.{Memory, Machine, machine}
 use Rattle.machine.specs.Decide.{decideOf}
 use Rattle.machine.specs.Apply.{Outcome, took, kept, lost}
 use Rattle.machine.specs.Records.{logBytes}
 use Rattle.machine.specs.Step.{outcomeBy}
-use Rattle.machine.specs.Path.{Space, unlogged, bytes, stepLog, pathBy, logFrom}
-use Rattle.machine.specs.PlaceA.{longest, mostBytes}
+use Rattle.machine.specs.Path.{Left, unlent, left-of, lacks, Space, space, stepLog, pathBy, logFrom}
+use Rattle.machine.specs.Lengths.{longest, mostBytes, rowWords}
+use Rattle.machine.specs.ProcessorRow.{rowOf, rowsFrom}
 use Rattle.machine.specs.Sound.{Sound}
 use Rattle.machine_log.specs.Logged.{logged}
 use Rattle.machine_perform.specs.declared.answer.Stepped.{Stepped}
 use Rattle.machine_perform.specs.AnswerView.{Gives}
+use Rattle.machine_steps.specs.declared.answer.Ending.{Ending as EndingIn}
+use Rattle.machine_steps.specs.declared.answer.Ending.the-variants.{Full, TableFull}
 use Rattle.machine_steps.specs.declared.answer.Ran.{Ran}
-use Rattle.machine_steps.specs.RanView.{RanAs}
+use Rattle.machine_steps.specs.RanView.{RanOn}
 
--- t says whether records are asked for
+-- t says whether records are asked for, and u whether rows are
 
-abbrev pub spaceOf : Bool → ℕ → Space
-spaceOf t room = cond t (bytes room) unlogged
+abbrev pub leftOf : Bool → ℕ → Left
+leftOf t n = cond t (left-of n) unlent
 
--- whether a log with so many bytes left is full, where a step may write so many
-abbrev pub fullOf : Bool → ℕ → ℕ → Bool
-fullOf t left most = cond t (ltb left most) false
+abbrev pub spaceOf : Bool → Bool → ℕ → ℕ → Space
+spaceOf t u room words = space (leftOf t room) (leftOf u words)
+
+-- whether a log or a table with so much left is too short for a step that may write so many bytes, and which of both
+abbrev pub shortOf : Bool → ℕ → ℕ → Bool → ℕ → Bool
+shortOf t room most u words = cond (lacks (leftOf t room) most) true (lacks (leftOf u words) rowWords)
+
+abbrev pub endFull : Bool → ℕ → ℕ → EndingIn
+endFull t room most = cond (lacks (leftOf t room) most) Full TableFull
 
 -- what a step from m writes where it is taken
 abbrev pub ownLog : Bool → Machine → List ℕ
@@ -36,6 +45,13 @@ ownLog t m = cond t (stepLog decideOf m) []
 -- what the steps from m through the machines write
 abbrev pub logOf : Bool → Machine → List Machine → List ℕ
 logOf t m ms = cond t (logBytes (m .state .revision) (logFrom decideOf m ms)) []
+
+-- the rows of both
+abbrev pub ownRow : Bool → Machine → List ℕ
+ownRow u m = cond u (rowOf m) []
+
+abbrev pub rowsOf : Bool → Machine → List Machine → List ℕ
+rowsOf u m ms = cond u (rowsFrom m ms) []
 
 -- ---- one step behind place `at` of the log
 
@@ -58,12 +74,13 @@ pub record AdvancedAt (t : Bool) (m : Machine) (b : List ℕ) (at : ℕ) (r : St
 
 -- ---- all of them
 
--- a sound machine, and a log that is not too long
-pub record StandingIn (m : Machine) (b : List ℕ) : Type 0 where
+-- a sound machine, and a log and a table that are not too long
+pub record StandingIn (m : Machine) (b w : List ℕ) : Type 0 where
   pub sound : Sound m
   pub few : length b ≤ longest
+  pub fewRows : length w ≤ longest
 
-abbrev pub StepsOn : Bool → ℕ → Machine → List ℕ → Ran → Memory → List ℕ → Type 0
-StepsOn t budget m b r n b2 =
-    let p = pathBy decideOf (spaceOf t (length b)) budget m in
-    RanAs p (logOf t m (p .machines)) (m .code) b r n b2
+abbrev pub StepsOn : Bool → Bool → ℕ → Machine → List ℕ → List ℕ → Ran → Memory → List ℕ → List ℕ → Type 0
+StepsOn t u budget m b w r n b2 w2 =
+    let p = pathBy decideOf (spaceOf t u (length b) (length w)) budget m in
+    RanOn p (logOf t m (p .machines)) (rowsOf u m (p .machines)) (m .code) b w r n b2 w2

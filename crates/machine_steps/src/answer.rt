@@ -1,15 +1,18 @@
 use machine::refusal::InstructionError;
 use machine::state::VMState;
 
-// How run or trace_execution ended. Full: fewer than 1,024 bytes of the log are left; run, which writes none, never ends so.
+// How run, trace_execution or trace_rows ended. Full: fewer bytes of the log are left than a step may write; TableFull: fewer words of the table than
+// a row has. run, which writes neither, never ends so.
 pub enum Ending {
     Halted,
     Spent,
     Full,
+    TableFull,
     Refused(InstructionError),
 }
 
-// How many steps succeeded, how it ended, the registers then, and how many bytes of the log are written, by run none.
+// How many steps succeeded, how it ended, the registers then, and how many bytes of the log are written, by run none. Of trace_rows as many rows are
+// written as steps succeeded.
 pub struct Ran {
     pub count: u64,
     pub ending: Ending,

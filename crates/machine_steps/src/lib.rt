@@ -1,3 +1,3 @@
-// The steps of run and of trace_execution.
+// The steps of run, of trace_execution and of trace_rows.
 pub mod answer;
 pub mod steps;

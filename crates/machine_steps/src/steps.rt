@@ -1,9 +1,12 @@
-// The steps of run and of trace_execution: up to a budget, with their records in a lent log where they are asked for.
+// The steps of run, of trace_execution and of trace_rows: up to a budget, with their records in a lent log and their rows in a lent table where they are
+// asked for.
 ghost use mathlib.Core.Path.{_≡_};
 ghost use Rattle.machine.specs.Machine.{machine};
+ghost use Rattle.machine.specs.Lengths.{mostBytes, rowWords};
+ghost use Rattle.machine.specs.Path.{lacks};
 ghost use Rattle.machine.specs.Lent.{codeAt, memoryAt, codeIn, memoryIn, memoryOut};
 ghost use Rattle.machine_steps.specs.RanView.{endOf};
-ghost use Rattle.machine_steps.specs.StepsView.{fullOf, StandingAt, AdvancedAt, StandingIn, StepsOn};
+ghost use Rattle.machine_steps.specs.StepsView.{leftOf, shortOf, endFull, StandingAt, AdvancedAt, StandingIn, StepsOn};
 use crate::answer::Ending;
 use crate::answer::Ran;
 use machine::state::VMState;
@@ -11,6 +14,8 @@ use machine_isa::instruction::most_bytes;
 use machine_perform::answer::Answer;
 use machine_perform::answer::Stepped;
 use machine_quick::quick::quick;
+use machine_rows::processor_row::next_row;
+use machine_rows::processor_row::take_row;
 use machine_step::advance::advance;
 use machine_step::records::moved;
 
@@ -25,11 +30,47 @@ fn end(halted: bool) -> Ending
     }
 }
 
-// Whether a log with so many bytes left is full, where a step may write `most`. Where no records are asked for it never is.
-fn full(recording: bool, left: usize, most: usize) -> bool
-    ensures { λ r. ⌜ r ≡ fullOf recording left most ⌝ }
+// Whether fewer bytes of a log are left than a step may write, where one is asked for. The revision is looked at only where few are left: a number of
+// bytes kept beside the loop takes time at each step.
+fn log_lacks(recording: bool, left: usize, revision: u64) -> bool
+    ensures { λ r. ⌜ r ≡ lacks (leftOf recording left) (mostBytes revision) ⌝ }
 {
-    if recording { left < most } else { false }
+    if recording {
+        if 1028 <= left {
+            return false;
+        }
+        return left < most_bytes(revision);
+    }
+    false
+}
+
+// Whether fewer words of a table are left than a row has.
+fn table_lacks(tabling: bool, left: usize) -> bool
+    ensures { λ r. ⌜ r ≡ lacks (leftOf tabling left) rowWords ⌝ }
+{
+    if tabling { left < 37 } else { false }
+}
+
+// Whether the log or the table has no room for a step.
+fn short(recording: bool, bytes: usize, revision: u64, tabling: bool, words: usize) -> bool
+    ensures { λ r. ⌜ r ≡ shortOf recording bytes (mostBytes revision) tabling words ⌝ }
+{
+    if log_lacks(recording, bytes, revision) {
+        true
+    } else {
+        table_lacks(tabling, words)
+    }
+}
+
+// Which of both it is, the log named first.
+fn full(recording: bool, bytes: usize, revision: u64) -> Ending
+    ensures { λ r. ⌜ r ≡ endFull recording bytes (mostBytes revision) ⌝ }
+{
+    if log_lacks(recording, bytes, revision) {
+        Ending::Full
+    } else {
+        Ending::TableFull
+    }
 }
 
 // One step, its records behind place `at` of the log.
@@ -74,9 +115,11 @@ fn advance_at(
     )
 }
 
-// Up to `budget` steps of a sound machine. Each tries halted, then spent, then full, then a step, a quick one first.
+// Up to `budget` steps of a sound machine. Each tries halted, then spent, then full, then a step, a quick one first. The row of the
+// machine is at hand before its step and goes into the table behind it, since a refused step leaves the table as it is.
 pub fn steps(
     recording: bool,
+    tabling: bool,
     budget: u64,
     state: VMState,
     opcodes: &[u64],
@@ -91,25 +134,52 @@ pub fn steps(
     values: &mut [u64],
     output: &mut [u64],
     b: &mut [u8],
+    table: &mut [u64],
 ) -> Ran
     requires { ⌜ StandingIn (machine state (codeAt opcodes arguments public secret digests)
-        (memoryAt «op_stack» origins destinations addresses values output)) (now b) ⌝ }
-    ensures { λ r. ⌜ StepsOn recording budget (machine state (codeIn opcodes arguments public secret digests)
-        (memoryIn «op_stack» origins destinations addresses values output)) (now (b .entry)) r
-        (memoryOut «op_stack» origins destinations addresses values output) (now (b .exit)) ⌝ }
+        (memoryAt «op_stack» origins destinations addresses values output)) (now b) (now table) ⌝ }
+    ensures { λ r. ⌜ StepsOn recording tabling budget (machine state (codeIn opcodes arguments public secret digests)
+        (memoryIn «op_stack» origins destinations addresses values output)) (now (b .entry)) (now (table .entry)) r
+        (memoryOut «op_stack» origins destinations addresses values output) (now (b .exit)) (now (table .exit)) ⌝ }
 {
-    let most = most_bytes(state.revision);
     let mut now = state;
     let mut count: u64 = 0;
     let mut at: usize = 0;
+    let mut filled: usize = 0;
+    let mut row = [0u64; 37];
+    take_row(
+        tabling,
+        &mut row,
+        state.clock as u64,
+        state.pointer,
+        state.depth,
+        state.jumps,
+        state.digests,
+        state.cells,
+        opcodes,
+        arguments,
+        digests,
+        op_stack,
+        origins,
+        destinations,
+        addresses,
+        values,
+    );
     while count < budget {
         if now.halted {
             break;
         }
-        if full(recording, b.len() - at, most) {
+        if short(
+            recording,
+            b.len() - at,
+            now.revision,
+            tabling,
+            table.len() - filled,
+        ) {
+            let ending = full(recording, b.len() - at, now.revision);
             return Ran {
                 count: count,
-                ending: Ending::Full,
+                ending: ending,
                 state: now,
                 bytes: at,
             };
@@ -132,6 +202,28 @@ pub fn steps(
             now.pointer = q.pointer;
             now.depth = q.depth;
             count += 1;
+            if tabling {
+                filled = next_row(
+                    table,
+                    filled,
+                    &mut row,
+                    now.clock as u64,
+                    now.pointer,
+                    now.depth,
+                    now.jumps,
+                    now.digests,
+                    now.cells,
+                    opcodes,
+                    arguments,
+                    digests,
+                    op_stack,
+                    origins,
+                    destinations,
+                    addresses,
+                    values,
+                );
+                continue;
+            }
             continue;
         }
         let r = advance_at(
@@ -157,6 +249,28 @@ pub fn steps(
             Answer::Took => {
                 count += 1;
                 at += r.bytes;
+                if tabling {
+                    filled = next_row(
+                        table,
+                        filled,
+                        &mut row,
+                        now.clock as u64,
+                        now.pointer,
+                        now.depth,
+                        now.jumps,
+                        now.digests,
+                        now.cells,
+                        opcodes,
+                        arguments,
+                        digests,
+                        op_stack,
+                        origins,
+                        destinations,
+                        addresses,
+                        values,
+                    );
+                    continue;
+                }
             }
             Answer::Refused(error) => {
                 return Ran {

@@ -1,4 +1,5 @@
-// The calls that take steps, with place A before each: step, run, trace_execution.
+// The calls that take steps, with place A before each: step, run, trace_execution, trace_rows.
+pub mod rows;
 pub mod run;
 pub mod step;
 pub mod trace;

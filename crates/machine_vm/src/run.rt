@@ -44,8 +44,10 @@ pub fn run(
         output,
     );
     if n == 0 {
-        let mut none = [0u8; 1];
+        let mut no_log = [0u8; 1];
+        let mut no_table = [0u64; 1];
         steps(
+            false,
             false,
             budget,
             state,
@@ -60,7 +62,8 @@ pub fn run(
             addresses,
             values,
             output,
-            &mut none,
+            &mut no_log,
+            &mut no_table,
         )
     } else {
         Ran {

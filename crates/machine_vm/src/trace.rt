@@ -49,8 +49,10 @@ pub fn trace_execution(
     );
     let n = first(shape, fault_number);
     if n == 0 {
+        let mut no_table = [0u64; 1];
         steps(
             true,
+            false,
             budget,
             state,
             opcodes,
@@ -65,6 +67,7 @@ pub fn trace_execution(
             values,
             output,
             b,
+            &mut no_table,
         )
     } else {
         Ran {

@@ -2,19 +2,21 @@
 use mathlib.Core.Path.{_≡_, refl}
 use mathlib.Core.Bool.{Bool, true, false}
 use mathlib.Core.List.{List, [], _∷_, _++_}
+use lib.ListN.{length}
 use lib.Dec.{eqb}
 use Rattle.choices.specs.Choice.{cond}
 use Rattle.machine.specs.Refusal.{plainly}
 use Rattle.machine.specs.Machine.{Machine}
 use Rattle.machine.specs.Effect.{Decision}
 use Rattle.machine.specs.Apply.{Outcome, took, kept, lost}
-use Rattle.machine.specs.PlaceA.{stepA}
+use Rattle.machine.specs.PlaceA.{machineA, stepA}
 use Rattle.machine.specs.Step.{outcomeBy}
-use Rattle.machine.specs.Path.{spent, refused, Path, stays, onward}
+use Rattle.machine.specs.Path.{spent, refused, Path, stays, onward, unlogged, bytes, tabled}
+use Rattle.machine.specs.Run.{traceA, rowsA}
 use Rattle.machine.proofs.Step.{step-outcome}
 use Rattle.machine.proofs.Path.{lastOf, Chain, chain-none, chain-more, chain-append, Row, row-stays, row-drops}
-use Rattle.machine.proofs.Run.{run-row, trace-row}
-use Rattle.replay.specs.Job.{Ask, step, run, trace, askOf, jobOf}
+use Rattle.machine.proofs.Run.{call-row}
+use Rattle.replay.specs.Job.{Ask, step, run, trace, rows, askOf, jobOf}
 
 module _ (decide : Machine → Decision) where
   row-step : (m : Machine) (o : Outcome) → outcomeBy decide m ≡ o → Row decide m (onward m (stays spent) o)
@@ -29,8 +31,9 @@ module _ (decide : Machine → Decision) where
       go : (t : Bool) → Row decide m (onward m (stays spent) (cond t (outcomeBy decide m) (kept (plainly (stepA m b)))))
       go true = row-step m (outcomeBy decide m) refl
       go false = row-stays decide m (refused (plainly (stepA m b)))
-  row-ask m (run n) = run-row decide n m
-  row-ask m (trace n b) = trace-row decide n m b
+  row-ask m (run n) = call-row decide (machineA m) unlogged n m
+  row-ask m (trace n b) = call-row decide (traceA m b) (bytes (length b)) n m
+  row-ask m (rows n b t) = call-row decide (rowsA m b t) (tabled (length b) (length t)) n m
 
   pub job-chain : (asks : List Ask) (m : Machine) → Chain decide m (jobOf decide m asks)
   unfolding jobOf

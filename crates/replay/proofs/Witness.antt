@@ -21,8 +21,8 @@ use Rattle.machine.specs.Apply.{took, appliedStack, touched, performed, limitsO
 use Rattle.machine.specs.PlaceA.{code1, memory1, buffer1, code2, machine2, opcodes3, arguments4, code34, revision4, machine5, machineA, stepA, openA}
 use Rattle.machine.specs.Open.{openedStack, opened, openOf}
 use Rattle.machine.specs.Step.{outcomeBy, stepBy}
-use Rattle.machine.specs.Path.{full, stays, stepLog, pathBy, logFrom}
-use Rattle.machine.specs.Run.{traceA, runBy, traceBy}
+use Rattle.machine.specs.Path.{the-log, full, stays, stepLog, pathBy, logFrom}
+use Rattle.machine.specs.Run.{traceA, callBy}
 use Rattle.machine.specs.Records.{stack, callRecords, growing, shrinking, stackRecords, recordsOf, recordBytes, logBytes}
 use Rattle.machine.proofs.RamLaws.{alike-same}
 use Rattle.replay.specs.Job.{Ask, step, run, trace, askOf, jobOf, recordsOfJob, machineAt}
@@ -52,16 +52,16 @@ unfolding our ourCode ourMemory ourDigest openedStack opened openOf code1 memory
 our-opens = refl
 
 pub our-records : recordsOfJob decideOf our asks ≡ stack 0 16 1 5 ∷ stack 1 16 0 5 ∷ []
-unfolding our asks ourCode ourMemory ourDigest logFrom jobOf askOf pathBy mostBytes clockBytes runBy traceA traceBy stepLog logBytes recordBytes bytesOf stepBy buffer1 stepA machineA machine2 machine5 outcomeBy callRecords growing shrinking stackRecords recordsOf openedStack opened code1 memory1 code2 opcodes3 arguments4 code34 revision4 appliedStack touched performed limitsOf settled effectOf decideOf pushOf popOf haltOf topOf table decode sizeOf placeFrom placeOf standsAt find held cells1 cells2 cells5 fallOf fallsOf wordOf2 wordsOf zerosFrom firstOf aboveOf differOf
+unfolding our asks ourCode ourMemory ourDigest logFrom jobOf askOf pathBy mostBytes clockBytes traceA callBy stepLog logBytes recordBytes bytesOf stepBy buffer1 stepA machineA machine2 machine5 outcomeBy callRecords growing shrinking stackRecords recordsOf openedStack opened code1 memory1 code2 opcodes3 arguments4 code34 revision4 appliedStack touched performed limitsOf settled effectOf decideOf pushOf popOf haltOf topOf table decode sizeOf placeFrom placeOf standsAt find held cells1 cells2 cells5 fallOf fallsOf wordOf2 wordsOf zerosFrom firstOf aboveOf differOf
 our-records = refl
 
 pub our-steps : length (jobOf decideOf our asks) ≡ 3
-unfolding our asks ourCode ourMemory ourDigest jobOf askOf pathBy mostBytes clockBytes runBy traceA traceBy stepLog logBytes recordBytes bytesOf stepBy buffer1 stepA machineA machine2 machine5 outcomeBy callRecords growing shrinking stackRecords recordsOf openedStack opened code1 memory1 code2 opcodes3 arguments4 code34 revision4 appliedStack touched performed limitsOf settled effectOf decideOf pushOf popOf haltOf topOf table decode sizeOf placeFrom placeOf standsAt find held cells1 cells2 cells5 fallOf fallsOf wordOf2 wordsOf zerosFrom firstOf aboveOf differOf
+unfolding our asks ourCode ourMemory ourDigest jobOf askOf pathBy mostBytes clockBytes traceA callBy stepLog logBytes recordBytes bytesOf stepBy buffer1 stepA machineA machine2 machine5 outcomeBy callRecords growing shrinking stackRecords recordsOf openedStack opened code1 memory1 code2 opcodes3 arguments4 code34 revision4 appliedStack touched performed limitsOf settled effectOf decideOf pushOf popOf haltOf topOf table decode sizeOf placeFrom placeOf standsAt find held cells1 cells2 cells5 fallOf fallsOf wordOf2 wordsOf zerosFrom firstOf aboveOf differOf
 our-steps = refl
 
 -- the first trace takes no step, the second the job's first one
-pub our-traced : (askOf decideOf our (trace 9 []) ≡ stays full our) × (logFrom decideOf our (askOf decideOf our (trace 9 (replicate 1024 0)) .machines) ≡ stack 0 16 1 5 ∷ [])
-unfolding our ourCode ourMemory ourDigest logFrom askOf pathBy mostBytes clockBytes runBy traceA traceBy stepLog logBytes recordBytes bytesOf stepBy buffer1 stepA machineA machine2 machine5 outcomeBy callRecords growing shrinking stackRecords recordsOf openedStack opened code1 memory1 code2 opcodes3 arguments4 code34 revision4 appliedStack touched performed limitsOf settled effectOf decideOf pushOf popOf haltOf topOf table decode sizeOf placeFrom placeOf standsAt find held cells1 cells2 cells5 fallOf fallsOf wordOf2 wordsOf zerosFrom firstOf aboveOf differOf
+pub our-traced : (askOf decideOf our (trace 9 []) ≡ stays (full the-log) our) × (logFrom decideOf our (askOf decideOf our (trace 9 (replicate 1024 0)) .machines) ≡ stack 0 16 1 5 ∷ [])
+unfolding our ourCode ourMemory ourDigest logFrom askOf pathBy mostBytes clockBytes traceA callBy stepLog logBytes recordBytes bytesOf stepBy buffer1 stepA machineA machine2 machine5 outcomeBy callRecords growing shrinking stackRecords recordsOf openedStack opened code1 memory1 code2 opcodes3 arguments4 code34 revision4 appliedStack touched performed limitsOf settled effectOf decideOf pushOf popOf haltOf topOf table decode sizeOf placeFrom placeOf standsAt find held cells1 cells2 cells5 fallOf fallsOf wordOf2 wordsOf zerosFrom firstOf aboveOf differOf
 our-traced = (refl, refl)
 
 our-short : length (logBytes (our .state .revision) (stack 0 16 1 5 ∷ stack 1 16 0 5 ∷ [])) ≤ 16777216

@@ -1,4 +1,4 @@
--- A job: a list of step, run and trace_execution calls on an opened machine, the machines after each of its steps, and its log.
+-- A job: a list of step, run, trace_execution and trace_rows calls on an opened machine, the machines after each of its steps, and its log.
 use Prim.Native.Nat.{ℕ}
 use mathlib.Core.List.{List, [], _∷_, _++_}
 use lib.ListN.{getD}
@@ -8,13 +8,14 @@ use Rattle.machine.specs.Effect.{Decision}
 use Rattle.machine.specs.Records.{Record}
 use Rattle.machine.specs.Step.{stepBy}
 use Rattle.machine.specs.Path.{spent, Path, stays, onward, logFrom}
-use Rattle.machine.specs.Run.{runBy, traceBy}
+use Rattle.machine.specs.Run.{runBy, traceBy, rowsBy}
 
--- a call: step with a call buffer, run with a budget, trace_execution with a budget and a log
+-- a call: step with a call buffer, run with a budget, trace_execution with a budget and a log, trace_rows with a table too
 pub data Ask : Type 0 where
   step : List ℕ → Ask
   run : ℕ → Ask
   trace : ℕ → List ℕ → Ask
+  rows : ℕ → List ℕ → List ℕ → Ask
 
 module _ (decide : Machine → Decision) where
   -- the path of a call: that of step is one step, or none where it is refused
@@ -22,6 +23,7 @@ module _ (decide : Machine → Decision) where
   askOf m (step b) = onward m (stays spent) (stepBy decide m b .outcome)
   askOf m (run n) = runBy decide n m
   askOf m (trace n b) = traceBy decide n m b
+  askOf m (rows n b t) = rowsBy decide n m b t
 
   -- the machines after each of the job's steps: each call is handed what the last left, refused ones included, up to the
   -- first skiz refused with its word dropped

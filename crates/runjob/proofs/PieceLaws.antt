@@ -25,7 +25,7 @@ use Rattle.choices.proofs.Choice.{first-zero, above-not}
 use Rattle.machine.proofs.PlaceA.{machine-accepted}
 use Rattle.machine.proofs.Facts.{facts}
 use Rattle.machine.proofs.Path.{after, Goes, at-halt, at-budget, at-full, at-refusal, at-drop, by-step, goes, path-halted, path-spent, path-on, path-ends, path-row, path-revision, path-sound}
-use Rattle.machine.proofs.Run.{trace-is}
+use Rattle.machine.proofs.Run.{call-is}
 use Rattle.machine.proofs.Drops.{drops-deep}
 use Rattle.machine.proofs.Records.{Sized}
 use Rattle.machine_log.proofs.Logged.{logged-front}
@@ -161,7 +161,7 @@ unfolding traceA pieceLines mostBytes clockBytes
 followed done n x t m log log2 s one few step w =
     let z : traceA x log ≡ 0 = first-zero _ _ (above-not (length log) longest 1 few) ∙ machine-accepted x s in
     of (pathBy decideOf (bytes (length log)) n x) (goes decideOf (bytes (length log)) n x)
-    (subst (λ (p : Path). RanAs p (logBytes (x .state .revision) (logFrom decideOf x (p .machines))) (x .code) log t m log2) (trace-is decideOf n x log z) w)
+    (subst (λ (p : Path). RanAs p (logBytes (x .state .revision) (logFrom decideOf x (p .machines))) (x .code) log t m log2) (call-is decideOf (traceA x log) (bytes (length log)) n x z) w)
   where
     of : (p : Path) → Goes decideOf (bytes (length log)) n x p → RanAs p (logBytes (x .state .revision) (logFrom decideOf x (p .machines))) (x .code) log t m log2 → Followed done n x t (machine (t .state) (x .code) m) log2
     of p g r =
@@ -174,7 +174,7 @@ followed done n x t m log log2 s one few step w =
         (record {
           inside = omega (arith, long, r .bytes);
           few = omega (arith, path-ends decideOf g .few, r .steps);
-          some = rw (r .steps, r .ending) (full-some g (ap (λ (v : ℕ). ltb (length log) (mostBytes v)) one ∙ le-ltb (length log) 1024 step));
+          some = rw (r .steps, r .ending) (full-some g (ap (λ (v : ℕ). tooLittle v (bytes (length log))) one ∙ ap (λ (q : Bool). cond q true false) (le-ltb (length log) 1024 step)));
           sound = path-sound decideOf facts (λ m s r e. drops-deep m r e) g s;
           revision = path-revision decideOf g ∙ one;
           is = rw (r .steps, r .ending) (part-lines g done ∙ cut (isFull (p .ending)) _ _ _ _ lines);

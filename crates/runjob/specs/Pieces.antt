@@ -37,7 +37,7 @@ leftLines j c m = cond (j .more) (cond (eqb (j .number) 0) (linesFrom (j .done) 
 abbrev pub isFull : Ending → Bool
 isFull halted = false
 isFull spent = false
-isFull full = true
+isFull (full w) = true
 isFull (refused r) = false
 
 -- a log's stack lines and, where the log was not full, the lines of the output and the end line; n is how many steps that line says

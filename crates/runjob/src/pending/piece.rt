@@ -30,6 +30,7 @@ fn end_line(b: &mut [u8], at: usize, ending: Ending, steps: u64, pointer: u64, d
         Ending::Halted => halted_line(b, at, steps, pointer, depth),
         Ending::Spent => spent_line(b, at, steps, pointer, depth),
         Ending::Full => at,
+        Ending::TableFull => at,
         Ending::Refused(error) => { refused_line(b, at, number(error), steps, pointer, depth) }
     }
 }
@@ -41,6 +42,7 @@ fn is_full(ending: Ending) -> bool
         Ending::Halted => false,
         Ending::Spent => false,
         Ending::Full => true,
+        Ending::TableFull => true,
         Ending::Refused(_) => false,
     }
 }

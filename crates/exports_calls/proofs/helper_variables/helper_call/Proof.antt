@@ -1,7 +1,13 @@
 -- `exports_calls::helper_variables::helper_call` meets its contract. Assumes nothing.
-use borrow.Author.Needs.{needs}
+use denote.Ref.{now}
+use Rattle.machine.specs.HelperVariables.{helperVariablesOf}
 use Rattle.exports_words.proofs.CallsLaws.{fits-facts}
-use Rattle.exports_calls.proofs.HelperCallLaws.{helper-called, helper-misfits}
+use Rattle.exports_words.proofs.ReportLaws.{wholly}
+use Rattle.exports_calls.proofs.GivenCallLaws.{given-called, given-misfits}
+use native.Mathlib.Omega.{arith}
+use mathlib.Core.Path.{_≡_}
+use lib.ListN.{length}
+use borrow.Author.Needs.{needs}
 use Rattle.exports_calls.proofs.helper_variables.helper_call.Statement.{statement}
 use Rattle.exports_calls.proofs.helper_variables.helper_call.Tie as tie
 
@@ -9,28 +15,38 @@ fits-requires : tie.Need-fits-requires
 fits-requires c κs = search needs
 
 read-registers-requires : tie.Need-read-registers-requires
-read-registers-requires c κs = fits-facts _ _ 6 (c .before .fits2 .ensures) (c .if1 .taken) .registers
+read-registers-requires c κs =
+    fits-facts _ _ 6 (c .before .fits2 .ensures) (c .if1 .taken) .registers
 
 helper-variables-requires : tie.Need-helper-variables-requires
 helper-variables-requires c κs = search needs
 
-write-helpers-requires : tie.Need-write-helpers-requires
-write-helpers-requires c κs = fits-facts _ _ 6 (c .before .before .before .before .before .fits2 .ensures) (c .before .before .before .before .if1 .taken) .answer
+slice-aggregate-copy : tie.Need-slice-aggregate-copy
+slice-aggregate-copy c = search needs
 
-clear-helpers-requires : tie.Need-clear-helpers-requires
-clear-helpers-requires c κs = search needs
+copy-requires : tie.Need-copy-requires
+copy-requires c κs =
+    let six : length (c .before .before .before .helper-variables .result .helpers) ≡ 6 = search needs in
+    (omega (arith, fits-facts _ _ 6 (c .before .before .before .before .before .before .fits2 .ensures) (c .before .before .before .before .before .if1 .taken) .answer), omega (arith, six))
+
+zero-words-requires : tie.Need-zero-words-requires
+zero-words-requires c κs = search needs
 
 same-length : tie.Need-same-length
 same-length c = search needs
 
 returns : tie.Need-returns
-returns c = helper-called _ _ _ _ (c .before .before .before .before .before .before .before .before .fits2 .ensures) (c .before .before .before .before .before .before .before .if1 .taken) (c .before .before .before .before .before .before .read-registers .ensures) (c .before .before .before .before .before .helper-variables .ensures) (c .before .before .write-helpers .ensures)
+returns c =
+    let r = c .before .before .before .before .before .before .helper-variables .result .helpers in
+    let six : length r ≡ 6 = search needs in
+    given-called 6 helperVariablesOf _ (now (c .before .before .before .before .before .before .before .before .before .before .before .before .before .before .before .before .before .before .before .before .before .before .before .before .args .helpers)) _ _ (c .before .before .before .before .before .before .before .before .before .fits2 .ensures) (c .before .before .before .before .before .before .before .before .if1 .taken) (c .before .before .before .before .before .before .before .read-registers .ensures) (c .before .before .before .before .before .before .helper-variables .ensures) (wholly (now (c .before .before .before .before .before .before .before .before .before .before .before .before .before .before .before .before .before .before .before .before .before .before .before .before .args .helpers)) _ r 6 (fits-facts _ _ 6 (c .before .before .before .before .before .before .before .before .before .fits2 .ensures) (c .before .before .before .before .before .before .before .before .if1 .taken) .answer) six (c .before .before .copy .ensures))
 
 same-length-2 : tie.Need-same-length-2
 same-length-2 c = search needs
 
 returns-2 : tie.Need-returns-2
-returns-2 c = helper-misfits _ _ _ _ (c .before .before .before .before .before .fits2 .ensures) (c .before .before .before .before .if1 .left) (c .before .before .clear-helpers .ensures)
+returns-2 c =
+    given-misfits 6 helperVariablesOf _ _ _ _ (c .before .before .before .before .before .fits2 .ensures) (c .before .before .before .before .if1 .left) (c .before .before .zero-words .ensures)
 
 pub helper-call-spec : {M : Type 1} → statement M
 helper-call-spec =
@@ -39,8 +55,9 @@ helper-call-spec =
     fits-requires
     read-registers-requires
     helper-variables-requires
-    write-helpers-requires
-    clear-helpers-requires
+    slice-aggregate-copy
+    copy-requires
+    zero-words-requires
     same-length
     returns
     same-length-2

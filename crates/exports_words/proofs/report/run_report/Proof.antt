@@ -25,6 +25,12 @@ enum-told-3 c = search needs
 unrefused-requires-3 : tie.Need-unrefused-requires-3
 unrefused-requires-3 c κs = search needs
 
+enum-told-4 : tie.Need-enum-told-4
+enum-told-4 c = search needs
+
+unrefused-requires-4 : tie.Need-unrefused-requires-4
+unrefused-requires-4 c κs = search needs
+
 enum-known-ending : tie.Need-enum-known-ending
 enum-known-ending c = search needs
 
@@ -41,7 +47,10 @@ returns-3 : tie.Need-returns-3
 returns-3 c = c .unrefused3 .ensures ∙ ap (λ (x : Ending). runReport (endingIn x) (c .before .before .before .args .count) (c .before .before .before .args .bytes)) (sym (c .before .enum-told3 .given .1))
 
 returns-4 : tie.Need-returns-4
-returns-4 c = c .refused .ensures ∙ ap (λ (x : Ending). runReport (endingIn x) (c .before .before .before .before .args .count) (c .before .before .before .before .args .bytes)) (sym (c .before .before .ending .given .1))
+returns-4 c = c .unrefused4 .ensures ∙ ap (λ (x : Ending). runReport (endingIn x) (c .before .before .before .args .count) (c .before .before .before .args .bytes)) (sym (c .before .enum-told4 .given .1))
+
+returns-5 : tie.Need-returns-5
+returns-5 c = c .refused .ensures ∙ ap (λ (x : Ending). runReport (endingIn x) (c .before .before .before .before .args .count) (c .before .before .before .before .args .bytes)) (sym (c .before .before .ending .given .1))
 
 pub run-report-spec : {M : Type 1} → statement M
 run-report-spec =
@@ -53,9 +62,12 @@ run-report-spec =
     unrefused-requires-2
     enum-told-3
     unrefused-requires-3
+    enum-told-4
+    unrefused-requires-4
     enum-known-ending
     refused-requires
     returns
     returns-2
     returns-3
-    returns-4)
+    returns-4
+    returns-5)

@@ -1,26 +1,30 @@
--- `machine_steps::steps::steps` meets its contract: what is done and what is left make the whole. Assumes nothing.
-use borrow.Author.Needs.{needs}
-use mathlib.Core.Path.{_≡_, refl, sym, _∙_}
+-- `machine_steps::steps::steps` meets its contract. Assumes nothing.
 use mathlib.Core.Logic.{⊎-elim}
+use borrow.Author.Needs.{needs}
+use Rattle.machine.specs.Machine.{machine, code, memory}
+use Rattle.machine_rows.specs.RowView.{shownIn, RowTaken}
+use Rattle.machine_rows.proofs.RowLaws.{sound-rowable, put-asked, taken-asked, put-unasked, taken-unasked}
+use Rattle.machine_steps.proofs.StepsLaws.{Going, steps-start, steps-within, rows-within, row-room, steps-stand, steps-fit, steps-sound, steps-go, quick-sound, steps-quick, quick-room, steps-kept, row-kept, steps-stop, steps-fill, steps-halt, steps-spend}
 use Prim.Native.Nat.{_-_}
 use native.Mathlib.Omega.{arith}
+use mathlib.Core.Path.{_≡_, refl, sym, _∙_}
 use lib.ListN.{length}
-use Rattle.machine.specs.Machine.{machine, code, memory}
-use Rattle.machine_steps.proofs.StepsLaws.{Going, steps-start, steps-within, steps-stand, steps-go, steps-quick, quick-room, steps-kept, steps-stop, steps-fill, steps-halt, steps-spend}
 use Rattle.machine_steps.proofs.steps.steps.Statement.{statement}
 use Rattle.machine_steps.proofs.steps.steps.Tie as tie
 
 abbrev Inv-loop : tie.InvT-loop
-Inv-loop recording budget opcodes arguments public secret digests op-stack₀ origins₀ destinations₀ addresses₀ values₀ output₀ b₀ most now₀ count₀ at₀ op-stack origins destinations addresses values output b now count at =
-    Going recording
+Inv-loop recording tabling budget opcodes arguments public secret digests op-stack₀ origins₀ destinations₀ addresses₀ values₀ output₀ b₀ table₀ now₀ count₀ at₀ filled₀ row₀ op-stack origins destinations addresses values output b table now count at filled row =
+    Going recording tabling
     budget
-    most
     b₀
+    table₀
     (machine now₀ (code opcodes arguments public secret digests) (memory op-stack₀ origins₀ destinations₀ addresses₀ values₀ output₀))
     (machine now (code opcodes arguments public secret digests) (memory op-stack origins destinations addresses values output))
     count
     at
+    filled
     b
+    table
     × (length op-stack ≡ length op-stack₀)
     × (length origins ≡ length origins₀)
     × (length destinations ≡ length destinations₀)
@@ -28,156 +32,280 @@ Inv-loop recording budget opcodes arguments public secret digests op-stack₀ or
     × (length values ≡ length values₀)
     × (length output ≡ length output₀)
     × (length b ≡ length b₀)
+    × (length table ≡ length table₀)
+    × (length row ≡ 37)
+    × RowTaken tabling (shownIn now) opcodes arguments digests op-stack origins destinations addresses values row
 
 abbrev μ-loop : tie.MeasureT-loop
-μ-loop recording budget opcodes arguments public secret digests op-stack₀ origins₀ destinations₀ addresses₀ values₀ output₀ b₀ most now₀ count₀ at₀ op-stack origins destinations addresses values output b now count at = budget - count
+μ-loop recording tabling budget opcodes arguments public secret digests op-stack₀ origins₀ destinations₀ addresses₀ values₀ output₀ b₀ table₀ now₀ count₀ at₀ filled₀ row₀ op-stack origins destinations addresses values output b table now count at filled row =
+    budget - count
 
-most-bytes-requires : tie.Need-most-bytes-requires Inv-loop μ-loop
-most-bytes-requires c κs = search needs
+slice-aggregate-take-row : tie.Need-slice-aggregate-take-row Inv-loop μ-loop
+slice-aggregate-take-row c =
+    search needs
+
+cast-take-row : tie.Need-cast-take-row Inv-loop μ-loop
+cast-take-row c =
+    search needs
+
+take-row-requires : tie.Need-take-row-requires Inv-loop μ-loop
+take-row-requires c κs =
+    let h = sound-rowable _ (c .before .before .before .before .before .before .before .before .before .before .before .before .before .before .before .before .before .before .before .before .pre .sound) in
+    (search needs, record { slots = h .slots; deep = h .deep; used = h .used; words = h .words; digests = h .digests; usable = h .usable; origins = h .origins; destinations = h .destinations })
 
 loop-holds : tie.Need-loop-holds Inv-loop μ-loop
-loop-holds c = (steps-start _ _ _ _ _ (c .most-bytes .ensures) (c .before .before .before .before .before .before .before .before .before .before .before .before .before .pre .sound), refl, refl, refl, refl, refl, refl, refl)
+loop-holds c =
+    (steps-start _ _ _ _ _ _ (c .before .before .before .before .before .before .before .before .before .before .before .before .before .before .before .before .before .before .before .before .before .before .pre .sound), refl, refl, refl, refl, refl, refl, refl, refl, omega (arith, c .before .take-row .kept), c .before .take-row .ensures)
+
+sub-short : tie.Need-sub-short Inv-loop μ-loop
+sub-short c =
+    steps-within (c .before .before .loop .inv .0)
+
+sub-short-2 : tie.Need-sub-short-2 Inv-loop μ-loop
+sub-short-2 c =
+    rows-within (c .before .before .loop .inv .0)
+
+short-requires : tie.Need-short-requires Inv-loop μ-loop
+short-requires c κs =
+    search needs
 
 sub-full : tie.Need-sub-full Inv-loop μ-loop
-sub-full c = steps-within (c .before .before .loop .inv .0)
+sub-full c =
+    steps-within (c .before .before .before .before .loop .inv .0)
 
 full-requires : tie.Need-full-requires Inv-loop μ-loop
-full-requires c κs = search needs
+full-requires c κs =
+    search needs
 
 same-length : tie.Need-same-length Inv-loop μ-loop
-same-length c = search needs
+same-length c =
+    search needs
 
 same-length-2 : tie.Need-same-length-2 Inv-loop μ-loop
-same-length-2 c = search needs
+same-length-2 c =
+    search needs
 
 same-length-3 : tie.Need-same-length-3 Inv-loop μ-loop
-same-length-3 c = search needs
+same-length-3 c =
+    search needs
 
 same-length-4 : tie.Need-same-length-4 Inv-loop μ-loop
-same-length-4 c = search needs
+same-length-4 c =
+    search needs
 
 same-length-5 : tie.Need-same-length-5 Inv-loop μ-loop
-same-length-5 c = search needs
+same-length-5 c =
+    search needs
 
 same-length-6 : tie.Need-same-length-6 Inv-loop μ-loop
-same-length-6 c = search needs
+same-length-6 c =
+    search needs
 
 same-length-7 : tie.Need-same-length-7 Inv-loop μ-loop
-same-length-7 c = search needs
+same-length-7 c =
+    search needs
+
+same-length-8 : tie.Need-same-length-8 Inv-loop μ-loop
+same-length-8 c =
+    search needs
 
 returns : tie.Need-returns Inv-loop μ-loop
-returns c = steps-fill (c .before .before .before .before .loop .inv .0) (c .before .before .before .loop-test .taken) (c .before .before .if1 .left) (sym (c .before .full .ensures) ∙ c .if2 .taken)
+returns c =
+    steps-fill (c .before .before .before .before .before .loop .inv .0) (c .before .before .before .before .loop-test .taken) (c .before .before .before .if1 .left) (sym (c .before .before .short .ensures) ∙ c .before .if2 .taken) (c .full .ensures)
 
 quick-requires : tie.Need-quick-requires Inv-loop μ-loop
-quick-requires c κs = record { digests = _; output = _; sound = c .before .before .before .before .before .before .before .before .before .loop .inv .0 .sound; on = c .before .before .before .before .before .before .before .if1 .left }
+quick-requires c κs =
+    record { digests = _; output = _; sound = c .before .before .before .before .before .before .before .before .before .loop .inv .0 .sound; on = c .before .before .before .before .before .before .before .if1 .left }
 
 moved-requires : tie.Need-moved-requires Inv-loop μ-loop
 moved-requires c κs =
-    let q = c .before .before .before .before .before in
-    let y = q .quick .ensures .done (c .before .before .if3 .taken) _ _ (q .before .before .before .before .before .before .before .before .before .before .loop .inv .0 .sound) in
-    quick-room (q .before .before .before .before .before .before .before .before .before .before .loop .inv .0) (q .before .before .before .before .before .before .before .before .before .loop-test .taken) (q .before .before .before .before .before .before .before .before .if1 .left) (sym (q .before .before .before .before .before .before .before .full .ensures) ∙ q .before .before .before .before .before .before .if2 .left) y (omega (arith, q .quick .kept))
+    let l = c .before .before .before .before .before .before .before .before .before .before .before .before .before .before .before .loop in
+    let y = c .before .before .before .before .before .quick .ensures .done (c .before .before .if3 .taken) _ _ (l .inv .0 .sound) in
+    quick-room (l .inv .0) (c .before .before .before .before .before .before .before .before .before .before .before .before .before .before .loop-test .taken) (c .before .before .before .before .before .before .before .before .before .before .before .before .before .if1 .left) (sym (c .before .before .before .before .before .before .before .before .before .before .before .before .short .ensures) ∙ c .before .before .before .before .before .before .before .before .before .before .before .if2 .left) y (omega (arith, c .before .before .before .before .before .quick .kept))
 
 add-now : tie.Need-add-now Inv-loop μ-loop
 add-now c =
-    let q = c .before .before .before .before .before .before .before .before .before in
-    let y = q .quick .ensures .done (c .before .before .before .before .before .before .if3 .taken) _ _ (q .before .before .before .before .before .before .before .before .before .before .loop .inv .0 .sound) in
-    let g = steps-quick (q .before .before .before .before .before .before .before .before .before .before .loop .inv .0) (q .before .before .before .before .before .before .before .before .before .loop-test .taken) (q .before .before .before .before .before .before .before .before .if1 .left) (sym (q .before .before .before .before .before .before .before .full .ensures) ∙ q .before .before .before .before .before .before .if2 .left) y (c .before .before .before .moved .ensures) in
-    omega (arith, g .sound .clock)
+    let l = c .before .before .before .before .before .before .before .before .before .before .before .before .before .before .before .before .before .before .before .loop in
+    let y = c .before .before .before .before .before .before .before .before .before .quick .ensures .done (c .before .before .before .before .before .before .if3 .taken) _ _ (l .inv .0 .sound) in
+    omega (arith, quick-sound (l .inv .0) (c .before .before .before .before .before .before .before .before .before .before .before .before .before .before .before .before .before .before .loop-test .taken) (c .before .before .before .before .before .before .before .before .before .before .before .before .before .before .before .before .before .if1 .left) (sym (c .before .before .before .before .before .before .before .before .before .before .before .before .before .before .before .before .short .ensures) ∙ c .before .before .before .before .before .before .before .before .before .before .before .before .before .before .before .if2 .left) y .clock)
 
 add-count : tie.Need-add-count Inv-loop μ-loop
-add-count c = omega (arith, c .before .before .before .before .before .before .before .before .before .before .before .before .before .before .before .before .before .before .loop-test .taken, c .before .before .before .before .before .before .before .before .before .before .before .before .before .before .before .before .before .before .before .before .before .before .before .before .before .before .before .before .before .before .before .before .before .good)
+add-count c =
+    omega (arith, c .before .before .before .before .before .before .before .before .before .before .before .before .before .before .before .before .before .before .loop-test .taken, c .before .before .before .before .before .before .before .before .before .before .before .before .before .before .before .before .before .before .before .before .before .before .before .before .before .before .before .before .before .before .before .before .before .before .before .before .before .before .before .before .before .before .good)
+
+slice-aggregate-next-row : tie.Need-slice-aggregate-next-row Inv-loop μ-loop
+slice-aggregate-next-row c =
+    let e : length (c .before .before .before .before .before .before .before .before .before .before .before .before .before .before .before .before .before .before .before .before .before .before .loop .row) ≡ 37 = c .before .before .before .before .before .before .before .before .before .before .before .before .before .before .before .before .before .before .before .before .before .before .loop .inv .9 in sym e
+
+cast-next-row : tie.Need-cast-next-row Inv-loop μ-loop
+cast-next-row c =
+    search needs
+
+next-row-requires : tie.Need-next-row-requires Inv-loop μ-loop
+next-row-requires c κs =
+    let l = c .before .before .before .before .before .before .before .before .before .before .before .before .before .before .before .before .before .before .before .before .before .before .before .before .before .before .before .before .loop in
+    let y = c .before .before .before .before .before .before .before .before .before .before .before .before .before .before .before .before .before .before .quick .ensures .done (c .before .before .before .before .before .before .before .before .before .before .before .before .before .before .before .if3 .taken) _ _ (l .inv .0 .sound) in
+    let h = sound-rowable _ (quick-sound (l .inv .0) (c .before .before .before .before .before .before .before .before .before .before .before .before .before .before .before .before .before .before .before .before .before .before .before .before .before .before .before .loop-test .taken) (c .before .before .before .before .before .before .before .before .before .before .before .before .before .before .before .before .before .before .before .before .before .before .before .before .before .before .if1 .left) (sym (c .before .before .before .before .before .before .before .before .before .before .before .before .before .before .before .before .before .before .before .before .before .before .before .before .before .short .ensures) ∙ c .before .before .before .before .before .before .before .before .before .before .before .before .before .before .before .before .before .before .before .before .before .before .before .before .if2 .left) y) in
+    (row-room (l .inv .0) (c .before .before .before .before .before .before .before .before .before .before .before .before .before .before .before .before .before .before .before .before .before .before .before .before .before .before .before .loop-test .taken) (c .before .before .before .before .before .before .before .before .before .before .before .before .before .before .before .before .before .before .before .before .before .before .before .before .before .before .if1 .left) (sym (c .before .before .before .before .before .before .before .before .before .before .before .before .before .before .before .before .before .before .before .before .before .before .before .before .before .short .ensures) ∙ c .before .before .before .before .before .before .before .before .before .before .before .before .before .before .before .before .before .before .before .before .before .before .before .before .if2 .left) (c .before .before .before .before .before .before .before .before .if4 .taken), l .inv .9, record { slots = h .slots; deep = h .deep; used = h .used; words = h .words; digests = h .digests; usable = h .usable; origins = h .origins; destinations = h .destinations })
 
 loop-less : tie.Need-loop-less Inv-loop μ-loop
-loop-less c = omega (arith, c .before .before .before .before .before .before .before .before .before .before .before .before .before .before .before .before .before .before .loop-test .taken)
+loop-less c =
+    omega (arith, c .before .before .before .before .before .before .before .before .before .before .before .before .before .before .before .before .before .before .before .before .before .before .before .before .before .before .before .before .before .before .before .loop-test .taken)
 
 loop-again : tie.Need-loop-again Inv-loop μ-loop
 loop-again c =
-    let q = c .before .before .before .before .before .before .before .before .before in
-    let y = q .quick .ensures .done (c .before .before .before .before .before .before .if3 .taken) _ _ (q .before .before .before .before .before .before .before .before .before .before .loop .inv .0 .sound) in
-    let g = steps-quick (q .before .before .before .before .before .before .before .before .before .before .loop .inv .0) (q .before .before .before .before .before .before .before .before .before .loop-test .taken) (q .before .before .before .before .before .before .before .before .if1 .left) (sym (q .before .before .before .before .before .before .before .full .ensures) ∙ q .before .before .before .before .before .before .if2 .left) y (c .before .before .before .moved .ensures) in
-    let l = q .before .before .before .before .before .before .before .before .before .before .loop in
-    (g, omega (arith, q .quick .kept, l .inv), l .inv .2, l .inv .3, l .inv .4, l .inv .5, l .inv .6, omega (arith, c .before .before .before .moved .kept, l .inv))
-
-advance-at-requires : tie.Need-advance-at-requires Inv-loop μ-loop
-advance-at-requires c κs =
-    let q = c .before .before .before .before .before .before .before .before .before .before in
-    steps-stand (steps-kept (q .quick .ensures .kept (c .before .before .before .before .before .before .before .if3 .left)) (q .before .before .before .before .before .before .before .before .before .before .loop .inv .0)) (q .before .before .before .before .before .before .before .before .before .loop-test .taken) (q .before .before .before .before .before .before .before .before .if1 .left) (sym (q .before .before .before .before .before .before .before .full .ensures) ∙ q .before .before .before .before .before .before .if2 .left)
-
-enum-told : tie.Need-enum-told Inv-loop μ-loop
-enum-told c = search needs
-
-add-count-2 : tie.Need-add-count-2 Inv-loop μ-loop
-add-count-2 c = omega (arith, c .before .before .before .before .before .before .before .before .before .before .before .before .before .before .before .before .before .before .before .before .before .before .before .before .before .before .before .before .before .before .before .before .before .before .before .before .before .loop-test .taken, c .before .before .before .before .before .before .before .before .before .before .before .before .before .before .before .before .before .before .before .before .before .before .before .before .before .before .before .before .before .before .before .before .before .before .before .before .before .before .before .before .before .before .before .before .before .before .before .before .before .before .before .before .good)
-
-add-at : tie.Need-add-at Inv-loop μ-loop
-add-at c =
-    let q = c .before .before .before .before .before .before .before .before .before .before .before .before .before .before .before .before .before .before .before .before .before .before .before .before .before .before .before .before .before in
-    let g = steps-go (steps-kept (q .quick .ensures .kept (c .before .before .before .before .before .before .before .before .before .before .before .before .before .before .before .before .before .before .before .before .before .before .before .before .before .before .if3 .left)) (q .before .before .before .before .before .before .before .before .before .before .loop .inv .0)) (q .before .before .before .before .before .before .before .before .before .loop-test .taken) (q .before .before .before .before .before .before .before .before .if1 .left) (sym (q .before .before .before .before .before .before .before .full .ensures) ∙ q .before .before .before .before .before .before .if2 .left) (c .before .enum-told .given .1) (c .before .before .before .before .before .before .before .before .before .before .before .before .before .before .before .before .before .before .advance-at .ensures) in
-    omega (arith, g .place, g .fits, c .before .before .before .before .before .before .before .before .before .before .before .before .before .before .before .before .before .before .before .before .before .before .before .before .before .before .before .before .before .before .before .before .before .before .before .before .before .before .before .before .before .before .before .before .before .before .before .before .before .before .before .before .before .pre .few)
+    let l = c .before .before .before .before .before .before .before .before .before .before .before .before .before .before .before .before .before .before .before .before .before .before .before .before .before .before .before .before .before .before .before .before .loop in
+    let y = c .before .before .before .before .before .before .before .before .before .before .before .before .before .before .before .before .before .before .before .before .before .before .quick .ensures .done (c .before .before .before .before .before .before .before .before .before .before .before .before .before .before .before .before .before .before .before .if3 .taken) _ _ (l .inv .0 .sound) in
+    let g = steps-quick (l .inv .0) (c .before .before .before .before .before .before .before .before .before .before .before .before .before .before .before .before .before .before .before .before .before .before .before .before .before .before .before .before .before .before .before .loop-test .taken) (c .before .before .before .before .before .before .before .before .before .before .before .before .before .before .before .before .before .before .before .before .before .before .before .before .before .before .before .before .before .before .if1 .left) (sym (c .before .before .before .before .before .before .before .before .before .before .before .before .before .before .before .before .before .before .before .before .before .before .before .before .before .before .before .before .before .short .ensures) ∙ c .before .before .before .before .before .before .before .before .before .before .before .before .before .before .before .before .before .before .before .before .before .before .before .before .before .before .before .before .if2 .left) y (c .before .before .before .before .before .before .before .before .before .before .before .before .before .before .before .before .moved .ensures) (λ e. l .inv .10 .asked e .is _ _ _ _ refl) (put-asked (c .before .before .before .before .before .before .before .before .before .before .before .before .if4 .taken) (c .before .before .before .next-row .ensures .0)) in
+    (g, omega (arith, c .before .before .before .before .before .before .before .before .before .before .before .before .before .before .before .before .before .before .before .before .before .before .quick .kept, l .inv), l .inv .2, l .inv .3, l .inv .4, l .inv .5, l .inv .6, omega (arith, c .before .before .before .before .before .before .before .before .before .before .before .before .before .before .before .before .moved .kept, l .inv), omega (arith, c .before .before .before .next-row .kept, l .inv), omega (arith, c .before .before .before .next-row .kept, l .inv), taken-asked (c .before .before .before .before .before .before .before .before .before .before .before .before .if4 .taken) (c .before .before .before .next-row .ensures .1))
 
 loop-less-2 : tie.Need-loop-less-2 Inv-loop μ-loop
-loop-less-2 c = omega (arith, c .before .before .before .before .before .before .before .before .before .before .before .before .before .before .before .before .before .before .before .before .before .before .before .before .before .before .before .before .before .before .before .before .before .before .before .before .before .before .loop-test .taken)
+loop-less-2 c =
+    omega (arith, c .before .before .before .before .before .before .before .before .before .before .before .before .before .before .before .before .before .before .before .loop-test .taken)
 
 loop-again-2 : tie.Need-loop-again-2 Inv-loop μ-loop
 loop-again-2 c =
-    let q = c .before .before .before .before .before .before .before .before .before .before .before .before .before .before .before .before .before .before .before .before .before .before .before .before .before .before .before .before .before in
-    let g = steps-go (steps-kept (q .quick .ensures .kept (c .before .before .before .before .before .before .before .before .before .before .before .before .before .before .before .before .before .before .before .before .before .before .before .before .before .before .if3 .left)) (q .before .before .before .before .before .before .before .before .before .before .loop .inv .0)) (q .before .before .before .before .before .before .before .before .before .loop-test .taken) (q .before .before .before .before .before .before .before .before .if1 .left) (sym (q .before .before .before .before .before .before .before .full .ensures) ∙ q .before .before .before .before .before .before .if2 .left) (c .before .enum-told .given .1) (c .before .before .before .before .before .before .before .before .before .before .before .before .before .before .before .before .before .before .advance-at .ensures) in
-    let l = q .before .before .before .before .before .before .before .before .before .before .loop in
-    let k = c .before .before .before .before .before .before .before .before .before .before .before .before .before .before .before .before .before .before .advance-at .kept in
-    (g, omega (arith, k, q .quick .kept, l .inv), omega (arith, k, l .inv), omega (arith, k, l .inv), omega (arith, k, l .inv), omega (arith, k, l .inv), omega (arith, k, l .inv), omega (arith, k, l .inv))
+    let l = c .before .before .before .before .before .before .before .before .before .before .before .before .before .before .before .before .before .before .before .before .loop in
+    let y = c .before .before .before .before .before .before .before .before .before .before .quick .ensures .done (c .before .before .before .before .before .before .before .if3 .taken) _ _ (l .inv .0 .sound) in
+    let g = steps-quick (l .inv .0) (c .before .before .before .before .before .before .before .before .before .before .before .before .before .before .before .before .before .before .before .loop-test .taken) (c .before .before .before .before .before .before .before .before .before .before .before .before .before .before .before .before .before .before .if1 .left) (sym (c .before .before .before .before .before .before .before .before .before .before .before .before .before .before .before .before .before .short .ensures) ∙ c .before .before .before .before .before .before .before .before .before .before .before .before .before .before .before .before .if2 .left) y (c .before .before .before .before .moved .ensures) (λ e. l .inv .10 .asked e .is _ _ _ _ refl) (put-unasked (c .if4 .left) _ _ _) in
+    (g, omega (arith, c .before .before .before .before .before .before .before .before .before .before .quick .kept, l .inv), l .inv .2, l .inv .3, l .inv .4, l .inv .5, l .inv .6, omega (arith, c .before .before .before .before .moved .kept, l .inv), l .inv .8, l .inv .9, taken-unasked (c .if4 .left))
+
+advance-at-requires : tie.Need-advance-at-requires Inv-loop μ-loop
+advance-at-requires c κs =
+    let l = c .before .before .before .before .before .before .before .before .before .before .before .before .before .before .before .before .before .before .before .before .loop in
+    steps-stand (steps-kept (c .before .before .before .before .before .before .before .before .before .before .quick .ensures .kept (c .before .before .before .before .before .before .before .if3 .left)) (l .inv .0)) (c .before .before .before .before .before .before .before .before .before .before .before .before .before .before .before .before .before .before .before .loop-test .taken) (c .before .before .before .before .before .before .before .before .before .before .before .before .before .before .before .before .before .before .if1 .left) (sym (c .before .before .before .before .before .before .before .before .before .before .before .before .before .before .before .before .before .short .ensures) ∙ c .before .before .before .before .before .before .before .before .before .before .before .before .before .before .before .before .if2 .left)
+
+enum-told : tie.Need-enum-told Inv-loop μ-loop
+enum-told c =
+    search needs
+
+add-count-2 : tie.Need-add-count-2 Inv-loop μ-loop
+add-count-2 c =
+    omega (arith, c .before .before .before .before .before .before .before .before .before .before .before .before .before .before .before .before .before .before .before .before .before .before .before .before .before .before .before .before .before .before .before .before .before .before .before .before .before .loop-test .taken, c .before .before .before .before .before .before .before .before .before .before .before .before .before .before .before .before .before .before .before .before .before .before .before .before .before .before .before .before .before .before .before .before .before .before .before .before .before .before .before .before .before .before .before .before .before .before .before .before .before .before .before .before .before .before .before .before .before .before .before .before .before .good)
+
+add-at : tie.Need-add-at Inv-loop μ-loop
+add-at c =
+    let l = c .before .before .before .before .before .before .before .before .before .before .before .before .before .before .before .before .before .before .before .before .before .before .before .before .before .before .before .before .before .before .before .before .before .before .before .before .before .before .before .loop in
+    let kept = c .before .before .before .before .before .before .before .before .before .before .before .before .before .before .before .before .before .before .before .before .before .before .before .before .before .before .before .before .before .quick .ensures .kept (c .before .before .before .before .before .before .before .before .before .before .before .before .before .before .before .before .before .before .before .before .before .before .before .before .before .before .if3 .left) in
+    let g = steps-kept kept (l .inv .0) in
+    omega (arith, steps-fit g (c .before .before .before .before .before .before .before .before .before .before .before .before .before .before .before .before .before .before .before .before .before .before .before .before .before .before .before .before .before .before .before .before .before .before .before .before .before .before .loop-test .taken) (c .before .before .before .before .before .before .before .before .before .before .before .before .before .before .before .before .before .before .before .before .before .before .before .before .before .before .before .before .before .before .before .before .before .before .before .before .before .if1 .left) (sym (c .before .before .before .before .before .before .before .before .before .before .before .before .before .before .before .before .before .before .before .before .before .before .before .before .before .before .before .before .before .before .before .before .before .before .before .before .short .ensures) ∙ c .before .before .before .before .before .before .before .before .before .before .before .before .before .before .before .before .before .before .before .before .before .before .before .before .before .before .before .before .before .before .before .before .before .before .before .if2 .left) (c .before .enum-told .given .1) (c .before .before .before .before .before .before .before .before .before .before .before .before .before .before .before .before .before .before .advance-at .ensures), c .before .before .before .before .before .before .before .before .before .before .before .before .before .before .before .before .before .before .before .before .before .before .before .before .before .before .before .before .before .before .before .before .before .before .before .before .before .before .before .before .before .before .before .before .before .before .before .before .before .before .before .before .before .before .before .before .before .before .before .before .before .before .pre .few, l .inv .7)
+
+slice-aggregate-next-row-2 : tie.Need-slice-aggregate-next-row-2 Inv-loop μ-loop
+slice-aggregate-next-row-2 c =
+    let e : length (c .before .before .before .before .before .before .before .before .before .before .before .before .before .before .before .before .before .before .before .before .before .before .before .before .before .before .before .before .before .before .before .before .before .before .before .before .before .before .before .before .before .before .loop .row) ≡ 37 = c .before .before .before .before .before .before .before .before .before .before .before .before .before .before .before .before .before .before .before .before .before .before .before .before .before .before .before .before .before .before .before .before .before .before .before .before .before .before .before .before .before .before .loop .inv .9 in sym e
+
+cast-next-row-2 : tie.Need-cast-next-row-2 Inv-loop μ-loop
+cast-next-row-2 c =
+    search needs
+
+next-row-requires-2 : tie.Need-next-row-requires-2 Inv-loop μ-loop
+next-row-requires-2 c κs =
+    let l = c .before .before .before .before .before .before .before .before .before .before .before .before .before .before .before .before .before .before .before .before .before .before .before .before .before .before .before .before .before .before .before .before .before .before .before .before .before .before .before .before .before .before .before .before .before .before .before .before .loop in
+    let kept = c .before .before .before .before .before .before .before .before .before .before .before .before .before .before .before .before .before .before .before .before .before .before .before .before .before .before .before .before .before .before .before .before .before .before .before .before .before .before .quick .ensures .kept (c .before .before .before .before .before .before .before .before .before .before .before .before .before .before .before .before .before .before .before .before .before .before .before .before .before .before .before .before .before .before .before .before .before .before .before .if3 .left) in
+    let g = steps-kept kept (l .inv .0) in
+    let h = sound-rowable _ (steps-sound g (c .before .before .before .before .before .before .before .before .before .before .before .before .before .before .before .before .before .before .before .before .before .before .before .before .before .before .before .before .before .before .before .before .before .before .before .before .before .before .before .before .before .before .before .before .before .before .before .loop-test .taken) (c .before .before .before .before .before .before .before .before .before .before .before .before .before .before .before .before .before .before .before .before .before .before .before .before .before .before .before .before .before .before .before .before .before .before .before .before .before .before .before .before .before .before .before .before .before .before .if1 .left) (sym (c .before .before .before .before .before .before .before .before .before .before .before .before .before .before .before .before .before .before .before .before .before .before .before .before .before .before .before .before .before .before .before .before .before .before .before .before .before .before .before .before .before .before .before .before .before .short .ensures) ∙ c .before .before .before .before .before .before .before .before .before .before .before .before .before .before .before .before .before .before .before .before .before .before .before .before .before .before .before .before .before .before .before .before .before .before .before .before .before .before .before .before .before .before .before .before .if2 .left) (c .before .before .before .before .before .before .before .before .before .before .enum-told .given .1) (c .before .before .before .before .before .before .before .before .before .before .before .before .before .before .before .before .before .before .before .before .before .before .before .before .before .before .before .advance-at .ensures)) in
+    (row-room (l .inv .0) (c .before .before .before .before .before .before .before .before .before .before .before .before .before .before .before .before .before .before .before .before .before .before .before .before .before .before .before .before .before .before .before .before .before .before .before .before .before .before .before .before .before .before .before .before .before .before .before .loop-test .taken) (c .before .before .before .before .before .before .before .before .before .before .before .before .before .before .before .before .before .before .before .before .before .before .before .before .before .before .before .before .before .before .before .before .before .before .before .before .before .before .before .before .before .before .before .before .before .before .if1 .left) (sym (c .before .before .before .before .before .before .before .before .before .before .before .before .before .before .before .before .before .before .before .before .before .before .before .before .before .before .before .before .before .before .before .before .before .before .before .before .before .before .before .before .before .before .before .before .before .short .ensures) ∙ c .before .before .before .before .before .before .before .before .before .before .before .before .before .before .before .before .before .before .before .before .before .before .before .before .before .before .before .before .before .before .before .before .before .before .before .before .before .before .before .before .before .before .before .before .if2 .left) (c .before .before .before .before .before .before .before .before .if5 .taken), l .inv .9, record { slots = h .slots; deep = h .deep; used = h .used; words = h .words; digests = h .digests; usable = h .usable; origins = h .origins; destinations = h .destinations })
+
+loop-less-3 : tie.Need-loop-less-3 Inv-loop μ-loop
+loop-less-3 c =
+    omega (arith, c .before .before .before .before .before .before .before .before .before .before .before .before .before .before .before .before .before .before .before .before .before .before .before .before .before .before .before .before .before .before .before .before .before .before .before .before .before .before .before .before .before .before .before .before .before .before .before .before .before .before .before .loop-test .taken)
+
+loop-again-3 : tie.Need-loop-again-3 Inv-loop μ-loop
+loop-again-3 c =
+    let l = c .before .before .before .before .before .before .before .before .before .before .before .before .before .before .before .before .before .before .before .before .before .before .before .before .before .before .before .before .before .before .before .before .before .before .before .before .before .before .before .before .before .before .before .before .before .before .before .before .before .before .before .before .loop in
+    let kept = c .before .before .before .before .before .before .before .before .before .before .before .before .before .before .before .before .before .before .before .before .before .before .before .before .before .before .before .before .before .before .before .before .before .before .before .before .before .before .before .before .before .before .quick .ensures .kept (c .before .before .before .before .before .before .before .before .before .before .before .before .before .before .before .before .before .before .before .before .before .before .before .before .before .before .before .before .before .before .before .before .before .before .before .before .before .before .before .if3 .left) in
+    let g = steps-kept kept (l .inv .0) in
+    let k = c .before .before .before .before .before .before .before .before .before .before .before .before .before .before .before .before .before .before .before .before .before .before .before .before .before .before .before .before .before .before .before .advance-at .kept in
+    (steps-go g (c .before .before .before .before .before .before .before .before .before .before .before .before .before .before .before .before .before .before .before .before .before .before .before .before .before .before .before .before .before .before .before .before .before .before .before .before .before .before .before .before .before .before .before .before .before .before .before .before .before .before .before .loop-test .taken) (c .before .before .before .before .before .before .before .before .before .before .before .before .before .before .before .before .before .before .before .before .before .before .before .before .before .before .before .before .before .before .before .before .before .before .before .before .before .before .before .before .before .before .before .before .before .before .before .before .before .before .if1 .left) (sym (c .before .before .before .before .before .before .before .before .before .before .before .before .before .before .before .before .before .before .before .before .before .before .before .before .before .before .before .before .before .before .before .before .before .before .before .before .before .before .before .before .before .before .before .before .before .before .before .before .before .short .ensures) ∙ c .before .before .before .before .before .before .before .before .before .before .before .before .before .before .before .before .before .before .before .before .before .before .before .before .before .before .before .before .before .before .before .before .before .before .before .before .before .before .before .before .before .before .before .before .before .before .before .before .if2 .left) (c .before .before .before .before .before .before .before .before .before .before .before .before .before .before .enum-told .given .1) (c .before .before .before .before .before .before .before .before .before .before .before .before .before .before .before .before .before .before .before .before .before .before .before .before .before .before .before .before .before .before .before .advance-at .ensures) (λ e. row-kept kept (l .inv .10) .asked e .is _ _ _ _ refl) (put-asked (c .before .before .before .before .before .before .before .before .before .before .before .before .if5 .taken) (c .before .before .before .next-row2 .ensures .0)), omega (arith, k, c .before .before .before .before .before .before .before .before .before .before .before .before .before .before .before .before .before .before .before .before .before .before .before .before .before .before .before .before .before .before .before .before .before .before .before .before .before .before .before .before .before .before .quick .kept, l .inv), omega (arith, k, l .inv), omega (arith, k, l .inv), omega (arith, k, l .inv), omega (arith, k, l .inv), omega (arith, k, l .inv), omega (arith, k, l .inv), omega (arith, c .before .before .before .next-row2 .kept, l .inv), omega (arith, c .before .before .before .next-row2 .kept, l .inv), taken-asked (c .before .before .before .before .before .before .before .before .before .before .before .before .if5 .taken) (c .before .before .before .next-row2 .ensures .1))
+
+loop-less-4 : tie.Need-loop-less-4 Inv-loop μ-loop
+loop-less-4 c =
+    omega (arith, c .before .before .before .before .before .before .before .before .before .before .before .before .before .before .before .before .before .before .before .before .before .before .before .before .before .before .before .before .before .before .before .before .before .before .before .before .before .before .before .loop-test .taken)
+
+loop-again-4 : tie.Need-loop-again-4 Inv-loop μ-loop
+loop-again-4 c =
+    let l = c .before .before .before .before .before .before .before .before .before .before .before .before .before .before .before .before .before .before .before .before .before .before .before .before .before .before .before .before .before .before .before .before .before .before .before .before .before .before .before .before .loop in
+    let kept = c .before .before .before .before .before .before .before .before .before .before .before .before .before .before .before .before .before .before .before .before .before .before .before .before .before .before .before .before .before .before .quick .ensures .kept (c .before .before .before .before .before .before .before .before .before .before .before .before .before .before .before .before .before .before .before .before .before .before .before .before .before .before .before .if3 .left) in
+    let g = steps-kept kept (l .inv .0) in
+    let k = c .before .before .before .before .before .before .before .before .before .before .before .before .before .before .before .before .before .before .before .advance-at .kept in
+    (steps-go g (c .before .before .before .before .before .before .before .before .before .before .before .before .before .before .before .before .before .before .before .before .before .before .before .before .before .before .before .before .before .before .before .before .before .before .before .before .before .before .before .loop-test .taken) (c .before .before .before .before .before .before .before .before .before .before .before .before .before .before .before .before .before .before .before .before .before .before .before .before .before .before .before .before .before .before .before .before .before .before .before .before .before .before .if1 .left) (sym (c .before .before .before .before .before .before .before .before .before .before .before .before .before .before .before .before .before .before .before .before .before .before .before .before .before .before .before .before .before .before .before .before .before .before .before .before .before .short .ensures) ∙ c .before .before .before .before .before .before .before .before .before .before .before .before .before .before .before .before .before .before .before .before .before .before .before .before .before .before .before .before .before .before .before .before .before .before .before .before .if2 .left) (c .before .before .enum-told .given .1) (c .before .before .before .before .before .before .before .before .before .before .before .before .before .before .before .before .before .before .before .advance-at .ensures) (λ e. row-kept kept (l .inv .10) .asked e .is _ _ _ _ refl) (put-unasked (c .if5 .left) _ _ _), omega (arith, k, c .before .before .before .before .before .before .before .before .before .before .before .before .before .before .before .before .before .before .before .before .before .before .before .before .before .before .before .before .before .before .quick .kept, l .inv), omega (arith, k, l .inv), omega (arith, k, l .inv), omega (arith, k, l .inv), omega (arith, k, l .inv), omega (arith, k, l .inv), omega (arith, k, l .inv), l .inv .8, l .inv .9, taken-unasked (c .if5 .left))
 
 enum-known-answer : tie.Need-enum-known-answer Inv-loop μ-loop
-enum-known-answer c = search needs
-
-same-length-8 : tie.Need-same-length-8 Inv-loop μ-loop
-same-length-8 c = let a = c .before .before .before .before .before .before .before .before .before .before .before .before .before .before .before .before .before .before in omega (arith, a .advance-at .kept, a .before .before .before .before .before .before .before .before .before .before .before .quick .kept, a .before .before .before .before .before .before .before .before .before .before .before .before .before .before .before .before .before .before .before .before .before .loop .inv)
+enum-known-answer c =
+    search needs
 
 same-length-9 : tie.Need-same-length-9 Inv-loop μ-loop
-same-length-9 c = let a = c .before .before .before .before .before .before .before .before .before .before .before .before .before .before .before .before .before .before in omega (arith, a .advance-at .kept, a .before .before .before .before .before .before .before .before .before .before .before .quick .kept, a .before .before .before .before .before .before .before .before .before .before .before .before .before .before .before .before .before .before .before .before .before .loop .inv)
+same-length-9 c =
+    omega (arith, c .before .before .before .before .before .before .before .before .before .before .before .before .before .before .before .before .before .before .advance-at .kept, c .before .before .before .before .before .before .before .before .before .before .before .before .before .before .before .before .before .before .before .before .before .before .before .before .before .before .before .before .before .quick .kept, c .before .before .before .before .before .before .before .before .before .before .before .before .before .before .before .before .before .before .before .before .before .before .before .before .before .before .before .before .before .before .before .before .before .before .before .before .before .before .before .loop .inv)
 
 same-length-10 : tie.Need-same-length-10 Inv-loop μ-loop
-same-length-10 c = let a = c .before .before .before .before .before .before .before .before .before .before .before .before .before .before .before .before .before .before in omega (arith, a .advance-at .kept, a .before .before .before .before .before .before .before .before .before .before .before .quick .kept, a .before .before .before .before .before .before .before .before .before .before .before .before .before .before .before .before .before .before .before .before .before .loop .inv)
+same-length-10 c =
+    omega (arith, c .before .before .before .before .before .before .before .before .before .before .before .before .before .before .before .before .before .before .advance-at .kept, c .before .before .before .before .before .before .before .before .before .before .before .before .before .before .before .before .before .before .before .before .before .before .before .before .before .before .before .before .before .quick .kept, c .before .before .before .before .before .before .before .before .before .before .before .before .before .before .before .before .before .before .before .before .before .before .before .before .before .before .before .before .before .before .before .before .before .before .before .before .before .before .before .loop .inv)
 
 same-length-11 : tie.Need-same-length-11 Inv-loop μ-loop
-same-length-11 c = let a = c .before .before .before .before .before .before .before .before .before .before .before .before .before .before .before .before .before .before in omega (arith, a .advance-at .kept, a .before .before .before .before .before .before .before .before .before .before .before .quick .kept, a .before .before .before .before .before .before .before .before .before .before .before .before .before .before .before .before .before .before .before .before .before .loop .inv)
+same-length-11 c =
+    omega (arith, c .before .before .before .before .before .before .before .before .before .before .before .before .before .before .before .before .before .before .advance-at .kept, c .before .before .before .before .before .before .before .before .before .before .before .before .before .before .before .before .before .before .before .before .before .before .before .before .before .before .before .before .before .quick .kept, c .before .before .before .before .before .before .before .before .before .before .before .before .before .before .before .before .before .before .before .before .before .before .before .before .before .before .before .before .before .before .before .before .before .before .before .before .before .before .before .loop .inv)
 
 same-length-12 : tie.Need-same-length-12 Inv-loop μ-loop
-same-length-12 c = let a = c .before .before .before .before .before .before .before .before .before .before .before .before .before .before .before .before .before .before in omega (arith, a .advance-at .kept, a .before .before .before .before .before .before .before .before .before .before .before .quick .kept, a .before .before .before .before .before .before .before .before .before .before .before .before .before .before .before .before .before .before .before .before .before .loop .inv)
+same-length-12 c =
+    omega (arith, c .before .before .before .before .before .before .before .before .before .before .before .before .before .before .before .before .before .before .advance-at .kept, c .before .before .before .before .before .before .before .before .before .before .before .before .before .before .before .before .before .before .before .before .before .before .before .before .before .before .before .before .before .quick .kept, c .before .before .before .before .before .before .before .before .before .before .before .before .before .before .before .before .before .before .before .before .before .before .before .before .before .before .before .before .before .before .before .before .before .before .before .before .before .before .before .loop .inv)
 
 same-length-13 : tie.Need-same-length-13 Inv-loop μ-loop
-same-length-13 c = let a = c .before .before .before .before .before .before .before .before .before .before .before .before .before .before .before .before .before .before in omega (arith, a .advance-at .kept, a .before .before .before .before .before .before .before .before .before .before .before .quick .kept, a .before .before .before .before .before .before .before .before .before .before .before .before .before .before .before .before .before .before .before .before .before .loop .inv)
+same-length-13 c =
+    omega (arith, c .before .before .before .before .before .before .before .before .before .before .before .before .before .before .before .before .before .before .advance-at .kept, c .before .before .before .before .before .before .before .before .before .before .before .before .before .before .before .before .before .before .before .before .before .before .before .before .before .before .before .before .before .quick .kept, c .before .before .before .before .before .before .before .before .before .before .before .before .before .before .before .before .before .before .before .before .before .before .before .before .before .before .before .before .before .before .before .before .before .before .before .before .before .before .before .loop .inv)
 
 same-length-14 : tie.Need-same-length-14 Inv-loop μ-loop
-same-length-14 c = let a = c .before .before .before .before .before .before .before .before .before .before .before .before .before .before .before .before .before .before in omega (arith, a .advance-at .kept, a .before .before .before .before .before .before .before .before .before .before .before .quick .kept, a .before .before .before .before .before .before .before .before .before .before .before .before .before .before .before .before .before .before .before .before .before .loop .inv)
+same-length-14 c =
+    omega (arith, c .before .before .before .before .before .before .before .before .before .before .before .before .before .before .before .before .before .before .advance-at .kept, c .before .before .before .before .before .before .before .before .before .before .before .before .before .before .before .before .before .before .before .before .before .before .before .before .before .before .before .before .before .quick .kept, c .before .before .before .before .before .before .before .before .before .before .before .before .before .before .before .before .before .before .before .before .before .before .before .before .before .before .before .before .before .before .before .before .before .before .before .before .before .before .before .loop .inv)
+
+same-length-15 : tie.Need-same-length-15 Inv-loop μ-loop
+same-length-15 c =
+    omega (arith, c .before .before .before .before .before .before .before .before .before .before .before .before .before .before .before .before .before .before .advance-at .kept, c .before .before .before .before .before .before .before .before .before .before .before .before .before .before .before .before .before .before .before .before .before .before .before .before .before .before .before .before .before .quick .kept, c .before .before .before .before .before .before .before .before .before .before .before .before .before .before .before .before .before .before .before .before .before .before .before .before .before .before .before .before .before .before .before .before .before .before .before .before .before .before .before .loop .inv)
+
+same-length-16 : tie.Need-same-length-16 Inv-loop μ-loop
+same-length-16 c =
+    omega (arith, c .before .before .before .before .before .before .before .before .before .before .before .before .before .before .before .before .before .before .advance-at .kept, c .before .before .before .before .before .before .before .before .before .before .before .before .before .before .before .before .before .before .before .before .before .before .before .before .before .before .before .before .before .quick .kept, c .before .before .before .before .before .before .before .before .before .before .before .before .before .before .before .before .before .before .before .before .before .before .before .before .before .before .before .before .before .before .before .before .before .before .before .before .before .before .before .loop .inv)
 
 returns-2 : tie.Need-returns-2 Inv-loop μ-loop
 returns-2 c =
-    let q = c .before .before .before .before .before .before .before .before .before .before .before .before .before .before .before .before .before .before .before .before .before .before .before .before .before .before .before .before .before in
-    steps-stop (steps-kept (q .quick .ensures .kept (c .before .before .before .before .before .before .before .before .before .before .before .before .before .before .before .before .before .before .before .before .before .before .before .before .before .before .if3 .left)) (q .before .before .before .before .before .before .before .before .before .before .loop .inv .0)) (q .before .before .before .before .before .before .before .before .before .loop-test .taken) (q .before .before .before .before .before .before .before .before .if1 .left) (sym (q .before .before .before .before .before .before .before .full .ensures) ∙ q .before .before .before .before .before .before .if2 .left) (c .before .answer .given .1) (c .before .before .before .before .before .before .before .before .before .before .before .before .before .before .before .before .before .before .advance-at .ensures)
+    let l = c .before .before .before .before .before .before .before .before .before .before .before .before .before .before .before .before .before .before .before .before .before .before .before .before .before .before .before .before .before .before .before .before .before .before .before .before .before .before .before .loop in
+    steps-stop (steps-kept (c .before .before .before .before .before .before .before .before .before .before .before .before .before .before .before .before .before .before .before .before .before .before .before .before .before .before .before .before .before .quick .ensures .kept (c .before .before .before .before .before .before .before .before .before .before .before .before .before .before .before .before .before .before .before .before .before .before .before .before .before .before .if3 .left)) (l .inv .0)) (c .before .before .before .before .before .before .before .before .before .before .before .before .before .before .before .before .before .before .before .before .before .before .before .before .before .before .before .before .before .before .before .before .before .before .before .before .before .before .loop-test .taken) (c .before .before .before .before .before .before .before .before .before .before .before .before .before .before .before .before .before .before .before .before .before .before .before .before .before .before .before .before .before .before .before .before .before .before .before .before .before .if1 .left) (sym (c .before .before .before .before .before .before .before .before .before .before .before .before .before .before .before .before .before .before .before .before .before .before .before .before .before .before .before .before .before .before .before .before .before .before .before .before .short .ensures) ∙ c .before .before .before .before .before .before .before .before .before .before .before .before .before .before .before .before .before .before .before .before .before .before .before .before .before .before .before .before .before .before .before .before .before .before .before .if2 .left) (c .before .answer .given .1) (c .before .before .before .before .before .before .before .before .before .before .before .before .before .before .before .before .before .before .advance-at .ensures)
 
 end-requires : tie.Need-end-requires Inv-loop μ-loop
-end-requires c κs = search needs
-
-same-length-15 : tie.Need-same-length-15 Inv-loop μ-loop
-same-length-15 c = search needs
-
-same-length-16 : tie.Need-same-length-16 Inv-loop μ-loop
-same-length-16 c = search needs
+end-requires c κs =
+    search needs
 
 same-length-17 : tie.Need-same-length-17 Inv-loop μ-loop
-same-length-17 c = search needs
+same-length-17 c =
+    search needs
 
 same-length-18 : tie.Need-same-length-18 Inv-loop μ-loop
-same-length-18 c = search needs
+same-length-18 c =
+    search needs
 
 same-length-19 : tie.Need-same-length-19 Inv-loop μ-loop
-same-length-19 c = search needs
+same-length-19 c =
+    search needs
 
 same-length-20 : tie.Need-same-length-20 Inv-loop μ-loop
-same-length-20 c = search needs
+same-length-20 c =
+    search needs
 
 same-length-21 : tie.Need-same-length-21 Inv-loop μ-loop
-same-length-21 c = search needs
+same-length-21 c =
+    search needs
+
+same-length-22 : tie.Need-same-length-22 Inv-loop μ-loop
+same-length-22 c =
+    search needs
+
+same-length-23 : tie.Need-same-length-23 Inv-loop μ-loop
+same-length-23 c =
+    search needs
+
+same-length-24 : tie.Need-same-length-24 Inv-loop μ-loop
+same-length-24 c =
+    search needs
 
 returns-3 : tie.Need-returns-3 Inv-loop μ-loop
 returns-3 c =
@@ -193,8 +321,13 @@ steps-spec =
     (tie.spec
     Inv-loop
     μ-loop
-    most-bytes-requires
+    slice-aggregate-take-row
+    cast-take-row
+    take-row-requires
     loop-holds
+    sub-short
+    sub-short-2
+    short-requires
     sub-full
     full-requires
     same-length
@@ -204,34 +337,47 @@ steps-spec =
     same-length-5
     same-length-6
     same-length-7
+    same-length-8
     returns
     quick-requires
     moved-requires
     add-now
     add-count
+    slice-aggregate-next-row
+    cast-next-row
+    next-row-requires
     loop-less
     loop-again
+    loop-less-2
+    loop-again-2
     advance-at-requires
     enum-told
     add-count-2
     add-at
-    loop-less-2
-    loop-again-2
+    slice-aggregate-next-row-2
+    cast-next-row-2
+    next-row-requires-2
+    loop-less-3
+    loop-again-3
+    loop-less-4
+    loop-again-4
     enum-known-answer
-    same-length-8
     same-length-9
     same-length-10
     same-length-11
     same-length-12
     same-length-13
     same-length-14
-    returns-2
-    end-requires
     same-length-15
     same-length-16
+    returns-2
+    end-requires
     same-length-17
     same-length-18
     same-length-19
     same-length-20
     same-length-21
+    same-length-22
+    same-length-23
+    same-length-24
     returns-3)

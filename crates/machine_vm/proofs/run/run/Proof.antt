@@ -1,11 +1,10 @@
 -- `machine_vm::run::run` meets its contract. Assumes nothing.
-use Rattle.machine.proofs.PlaceA.{machine-sound}
-use Rattle.machine_vm.proofs.RunLaws.{run-accepted, run-turned}
-use Prim.Native.Nat.{ℕ}
+use borrow.Author.Needs.{length-unmapped, needs}
+use Rattle.machine_vm.proofs.RunLaws.{stands-in, run-accepted, run-turned}
+use Prim.Native.Nat.{ℕ, _<_}
 use native.Mathlib.Omega.{arith}
 use mathlib.Core.Path.{_≡_, sym, _∙_}
 use lib.ListN.{length}
-use borrow.Author.Needs.{needs, length-unmapped}
 use Rattle.machine_vm.proofs.run.run.Statement.{statement}
 use Rattle.machine_vm.proofs.run.run.Tie as tie
 
@@ -15,12 +14,15 @@ check-machine-requires c κs = search needs
 slice-aggregate-steps : tie.Need-slice-aggregate-steps
 slice-aggregate-steps c = search needs
 
+slice-aggregate-steps-2 : tie.Need-slice-aggregate-steps-2
+slice-aggregate-steps-2 c = search needs
+
 steps-requires : tie.Need-steps-requires
 steps-requires c κs =
-    let s = c .before .before .before .before .before .before .before .before .before .before .before .before .before .before .before .before .before .before .before .before .before .before .before .before .before .before in
-    let w = s .args .state .sponge .words in
-    let sixteen : length w ≡ 16 = length-unmapped ℕ w 16 (s .good .1 .0 .1 .1 .1 .1 .1 .1 .1 .1 .1 .1 .1 .0 .1 .1 .0 .1 .0 .1) in
-    record { sound = machine-sound _ sixteen (search needs) (sym (c .before .before .before .before .before .before .before .before .check-machine .ensures) ∙ c .before .before .before .before .before .before .before .if1 .taken); few = omega arith }
+    let w = c .before .before .before .before .before .before .before .before .before .before .before .before .before .before .before .before .before .before .before .before .before .before .before .before .before .before .before .args .state .sponge .words in
+    let sixteen : length w ≡ 16 = length-unmapped ℕ w 16 (c .before .before .before .before .before .before .before .before .before .before .before .before .before .before .before .before .before .before .before .before .before .before .before .before .before .before .before .good .1 .0 .1 .1 .1 .1 .1 .1 .1 .1 .1 .1 .1 .0 .1 .1 .0 .1 .0 .1) in
+    let early : c .before .before .before .before .before .before .before .before .before .before .before .before .before .before .before .before .before .before .before .before .before .before .before .before .before .before .before .args .state .clock < 4294967296 = omega (arith, c .before .before .before .before .before .before .before .before .before .before .before .before .before .before .before .before .before .before .before .before .before .before .before .before .before .before .before .good .1 .0) in
+    stands-in _ _ _ sixteen early (sym (c .before .before .before .before .before .before .before .before .before .check-machine .ensures) ∙ c .before .before .before .before .before .before .before .before .if1 .taken) (omega arith) (omega arith)
 
 same-length : tie.Need-same-length
 same-length c = search needs
@@ -42,7 +44,7 @@ same-length-6 c = search needs
 
 returns : tie.Need-returns
 returns c =
-    run-accepted _ _ (sym (c .before .before .before .before .before .before .before .before .before .before .before .before .before .before .before .before .before .before .before .before .before .before .check-machine .ensures) ∙ c .before .before .before .before .before .before .before .before .before .before .before .before .before .before .before .before .before .before .before .before .before .if1 .taken) (c .before .before .before .before .before .before .before .before .before .before .before .before .before .steps .ensures)
+    run-accepted _ _ (sym (c .before .before .before .before .before .before .before .before .before .before .before .before .before .before .before .before .before .before .before .before .before .before .before .before .check-machine .ensures) ∙ c .before .before .before .before .before .before .before .before .before .before .before .before .before .before .before .before .before .before .before .before .before .before .before .if1 .taken) (c .before .before .before .before .before .before .before .before .before .before .before .before .before .before .steps .ensures)
 
 same-length-7 : tie.Need-same-length-7
 same-length-7 c = search needs
@@ -72,6 +74,7 @@ run-spec =
     (tie.spec
     check-machine-requires
     slice-aggregate-steps
+    slice-aggregate-steps-2
     steps-requires
     same-length
     same-length-2

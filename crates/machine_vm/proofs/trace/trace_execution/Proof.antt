@@ -1,10 +1,11 @@
 -- `machine_vm::trace::trace_execution` meets its contract. Assumes nothing.
-use borrow.Author.Needs.{needs, length-unmapped}
-use mathlib.Core.Path.{_≡_, sym, _∙_}
-use Prim.Native.Nat.{ℕ}
-use lib.ListN.{length}
+use borrow.Author.Needs.{length-unmapped, needs}
 use denote.Ref.{now}
-use Rattle.machine_vm.proofs.RunLaws.{stands-in, trace-number, trace-accepted, trace-turned}
+use Rattle.machine_vm.proofs.RunLaws.{stands-in, trace-fits, trace-number, trace-accepted, trace-turned}
+use Prim.Native.Nat.{ℕ, _<_}
+use native.Mathlib.Omega.{arith}
+use mathlib.Core.Path.{_≡_, sym, _∙_}
+use lib.ListN.{length}
 use Rattle.machine_vm.proofs.trace.trace_execution.Statement.{statement}
 use Rattle.machine_vm.proofs.trace.trace_execution.Tie as tie
 
@@ -17,12 +18,16 @@ check-machine-requires c κs = search needs
 first-requires : tie.Need-first-requires
 first-requires c κs = search needs
 
+slice-aggregate-steps : tie.Need-slice-aggregate-steps
+slice-aggregate-steps c = search needs
+
 steps-requires : tie.Need-steps-requires
 steps-requires c κs =
-    let s = c .before .before .before .before .before .before .before .before .before .before .before .before .before .before .before .before .before .before .before .before .before .before .before .before .before .before .before .before .before in
-    let w = s .args .state .sponge .words in
-    let sixteen : length w ≡ 16 = length-unmapped ℕ w 16 (s .good .1 .0 .1 .1 .1 .1 .1 .1 .1 .1 .1 .1 .1 .0 .1 .1 .0 .1 .0 .1) in
-    stands-in _ _ sixteen (search needs) (sym (trace-number _ (now (c .before .before .before .before .before .before .before .before .before .before .before .before .before .before .before .before .before .before .before .before .before .before .before .before .before .before .before .before .before .args .b)) (c .before .before .before .before .before .before .before .before .before .before .before .before .before .before .before .before .above .ensures) (c .before .before .before .before .before .before .before .before .before .check-machine .ensures) (c .before .before .before .before .before .before .before .before .first .ensures)) ∙ c .before .before .before .before .before .before .before .if1 .taken)
+    let w = c .before .before .before .before .before .before .before .before .before .before .before .before .before .before .before .before .before .before .before .before .before .before .before .before .before .before .before .before .before .before .args .state .sponge .words in
+    let sixteen : length w ≡ 16 = length-unmapped ℕ w 16 (c .before .before .before .before .before .before .before .before .before .before .before .before .before .before .before .before .before .before .before .before .before .before .before .before .before .before .before .before .before .before .good .1 .0 .1 .1 .1 .1 .1 .1 .1 .1 .1 .1 .1 .0 .1 .1 .0 .1 .0 .1) in
+    let k = trace-fits _ (now (c .before .before .before .before .before .before .before .before .before .before .before .before .before .before .before .before .before .before .before .before .before .before .before .before .before .before .before .before .before .before .args .b)) (sym (trace-number _ (now (c .before .before .before .before .before .before .before .before .before .before .before .before .before .before .before .before .before .before .before .before .before .before .before .before .before .before .before .before .before .before .args .b)) (c .before .before .before .before .before .before .before .before .before .before .before .before .before .before .before .before .before .above .ensures) (c .before .before .before .before .before .before .before .before .before .before .check-machine .ensures) (c .before .before .before .before .before .before .before .before .before .first .ensures)) ∙ c .before .before .before .before .before .before .before .before .if1 .taken) in
+    let early : c .before .before .before .before .before .before .before .before .before .before .before .before .before .before .before .before .before .before .before .before .before .before .before .before .before .before .before .before .before .before .args .state .clock < 4294967296 = omega (arith, c .before .before .before .before .before .before .before .before .before .before .before .before .before .before .before .before .before .before .before .before .before .before .before .before .before .before .before .before .before .before .good .1 .0) in
+    stands-in _ _ _ sixteen early (k .1) (k .0) (omega arith)
 
 same-length : tie.Need-same-length
 same-length c = search needs
@@ -46,7 +51,8 @@ same-length-7 : tie.Need-same-length-7
 same-length-7 c = search needs
 
 returns : tie.Need-returns
-returns c = trace-accepted _ _ _ (sym (trace-number _ (now (c .before .before .before .before .before .before .before .before .before .before .before .before .before .before .before .before .before .before .before .before .before .before .before .before .before .before .before .before .before .before .before .before .before .before .before .before .before .before .before .before .before .before .before .before .args .b)) (c .before .before .before .before .before .before .before .before .before .before .before .before .before .before .before .before .before .before .before .before .before .before .before .before .before .before .before .before .before .before .before .above .ensures) (c .before .before .before .before .before .before .before .before .before .before .before .before .before .before .before .before .before .before .before .before .before .before .before .before .check-machine .ensures) (c .before .before .before .before .before .before .before .before .before .before .before .before .before .before .before .before .before .before .before .before .before .before .before .first .ensures)) ∙ c .before .before .before .before .before .before .before .before .before .before .before .before .before .before .before .before .before .before .before .before .before .before .if1 .taken) (c .before .before .before .before .before .before .before .before .before .before .before .before .before .before .steps .ensures)
+returns c =
+    trace-accepted _ _ _ (sym (trace-number _ (now (c .before .before .before .before .before .before .before .before .before .before .before .before .before .before .before .before .before .before .before .before .before .before .before .before .before .before .before .before .before .before .before .before .before .before .before .before .before .before .before .before .before .before .before .before .before .before .args .b)) (c .before .before .before .before .before .before .before .before .before .before .before .before .before .before .before .before .before .before .before .before .before .before .before .before .before .before .before .before .before .before .before .before .before .above .ensures) (c .before .before .before .before .before .before .before .before .before .before .before .before .before .before .before .before .before .before .before .before .before .before .before .before .before .before .check-machine .ensures) (c .before .before .before .before .before .before .before .before .before .before .before .before .before .before .before .before .before .before .before .before .before .before .before .before .before .first .ensures)) ∙ c .before .before .before .before .before .before .before .before .before .before .before .before .before .before .before .before .before .before .before .before .before .before .before .before .if1 .taken) (c .before .before .before .before .before .before .before .before .before .before .before .before .before .before .before .steps .ensures)
 
 same-length-8 : tie.Need-same-length-8
 same-length-8 c = search needs
@@ -67,7 +73,8 @@ same-length-13 : tie.Need-same-length-13
 same-length-13 c = search needs
 
 returns-2 : tie.Need-returns-2
-returns-2 c = trace-turned _ _ _ (trace-number _ (now (c .before .before .before .before .before .before .before .before .before .before .before .before .before .before .before .before .before .before .before .before .before .before .args .b)) (c .before .before .before .before .before .before .before .before .before .above .ensures) (c .before .before .check-machine .ensures) (c .before .first .ensures)) (c .if1 .left)
+returns-2 c =
+    trace-turned _ _ _ (trace-number _ (now (c .before .before .before .before .before .before .before .before .before .before .before .before .before .before .before .before .before .before .before .before .before .before .args .b)) (c .before .before .before .before .before .before .before .before .before .above .ensures) (c .before .before .check-machine .ensures) (c .before .first .ensures)) (c .if1 .left)
 
 pub trace-execution-spec : {M : Type 1} → statement M
 trace-execution-spec =
@@ -76,6 +83,7 @@ trace-execution-spec =
     above-requires
     check-machine-requires
     first-requires
+    slice-aggregate-steps
     steps-requires
     same-length
     same-length-2

@@ -28,6 +28,9 @@ spent-line-requires c κs = search needs
 enum-told-3 : tie.Need-enum-told-3
 enum-told-3 c = search needs
 
+enum-told-4 : tie.Need-enum-told-4
+enum-told-4 c = search needs
+
 enum-known-ending : tie.Need-enum-known-ending
 enum-known-ending c = search needs
 
@@ -61,12 +64,18 @@ returns-3 c =
     let a = c .before .before .before .args in
     put-wide (put-none (now (a .b)) (a .at)) (sym (ap (λ (e : Ending). endLine (endingIn e) (a .steps) (a .pointer) (a .depth)) (c .enum-told3 .given .1))) (omega arith)
 
-same-length-3 : tie.Need-same-length-3
-same-length-3 c = search needs
-
 returns-4 : tie.Need-returns-4
 unfolding endLine
 returns-4 c =
+    let a = c .before .before .before .args in
+    put-wide (put-none (now (a .b)) (a .at)) (sym (ap (λ (e : Ending). endLine (endingIn e) (a .steps) (a .pointer) (a .depth)) (c .enum-told4 .given .1))) (omega arith)
+
+same-length-3 : tie.Need-same-length-3
+same-length-3 c = search needs
+
+returns-5 : tie.Need-returns-5
+unfolding endLine
+returns-5 c =
     let a = c .before .before .before .before .before .before .before .before .before .args in
     put-wide (c .before .before .refused-line .ensures) (ap (λ (k : ℕ). refusedLine k (a .steps) (a .pointer) (a .depth)) (c .before .before .before .number .ensures) ∙ sym (ap (λ (e : Ending). endLine (endingIn e) (a .steps) (a .pointer) (a .depth)) (c .before .before .before .before .before .before .ending .given .1))) (omega arith)
 
@@ -79,6 +88,7 @@ end-line-spec =
     enum-told-2
     spent-line-requires
     enum-told-3
+    enum-told-4
     enum-known-ending
     number-requires
     refused-line-requires
@@ -87,5 +97,6 @@ end-line-spec =
     same-length-2
     returns-2
     returns-3
+    returns-4
     same-length-3
-    returns-4)
+    returns-5)

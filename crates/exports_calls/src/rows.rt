@@ -1,0 +1,67 @@
+// trace_rows over numbers and slices.
+ghost use mathlib.Core.Path.{_≡_};
+ghost use Rattle.machine.specs.Lent.{codeIn, memoryIn, memoryOut};
+ghost use Rattle.exports_words.specs.Calls.{called, recorded, tabled};
+ghost use Rattle.exports_calls.specs.RunCall.{rowsCall};
+use exports_words::fits::fits;
+use exports_words::registers::read_registers;
+use exports_words::registers::write_registers;
+use exports_words::report::run_report;
+use exports_words::report::turn_down;
+use exports_words::report::write_answer;
+use machine_vm::rows::trace_rows;
+
+// The records of the steps are the first bytes of calls, and their rows the first words of rows, each step's behind the last one's.
+pub fn rows_call(
+    registers: &mut [u64],
+    answer: &mut [u64],
+    budget: u64,
+    opcodes: &[u64],
+    arguments: &[u64],
+    public: &[u64],
+    secret: &[u64],
+    digests: &[u64],
+    op_stack: &mut [u64],
+    origins: &mut [u64],
+    destinations: &mut [u64],
+    addresses: &mut [u64],
+    values: &mut [u64],
+    output: &mut [u64],
+    calls: &mut [u8],
+    rows: &mut [u64],
+) -> u64
+    ensures { λ r. ⌜ tabled (recorded (called r (now (registers .exit)) (now (answer .exit))
+        (memoryOut «op_stack» origins destinations addresses values output)) (now (calls .exit))) (now (rows .exit))
+        ≡ rowsCall budget (now (registers .entry)) (now (answer .entry))
+        (codeIn opcodes arguments public secret digests)
+        (memoryIn «op_stack» origins destinations addresses values output) (now (calls .entry)) (now (rows .entry)) ⌝ }
+{
+    if fits(registers, answer, 7) {
+        let state = read_registers(registers);
+        let r = trace_rows(
+            budget,
+            state,
+            opcodes,
+            arguments,
+            public,
+            secret,
+            digests,
+            op_stack,
+            origins,
+            destinations,
+            addresses,
+            values,
+            output,
+            calls,
+            rows,
+        );
+        let ending = r.ending;
+        let report = run_report(ending, r.count, r.bytes);
+        write_registers(registers, r.state);
+        write_answer(answer, report);
+        report.number
+    } else {
+        turn_down(answer);
+        1
+    }
+}

@@ -1,0 +1,2 @@
+// Rows of the processor table.
+pub mod processor_row;
