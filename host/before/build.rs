@@ -1,5 +1,5 @@
 //! Makes a copy of the library in the folder BEFORE, where that is set, whose names begin with `before_`, so that it can be linked
-//! beside the library itself. Needs nm and objcopy. A library of R-8 or later is not taken: it has one register more.
+//! beside the library itself. Needs nm and objcopy. Since R-8 a library has one register more, and replay is told the revision.
 use std::collections::BTreeSet;
 use std::env;
 use std::ffi::OsStr;
@@ -9,6 +9,7 @@ use std::process::Command;
 
 fn main() {
     println!("cargo::rustc-check-cfg=cfg(before)");
+    println!("cargo::rustc-check-cfg=cfg(since_r_8)");
     println!("cargo::rerun-if-env-changed=BEFORE");
     if let Some(folder) = env::var_os("BEFORE").filter(|folder| !folder.is_empty()) {
         if let Err(text) = link(Path::new(&folder)) {
@@ -33,7 +34,7 @@ fn link(folder: &Path) -> Result<(), String> {
     let defined: BTreeSet<&str> = defined.lines().filter_map(|line| Some(line.split_once(' ')?.0)).collect();
     // R-8 brought this export together with the register
     if defined.contains("triton_interface_version") {
-        return Err(format!("BEFORE is an earlier library from before R-8, found a later one in {}", folder.display()));
+        println!("cargo::rustc-cfg=since_r_8");
     }
     let renamed: String = defined.iter().map(|name| format!("{name} before_{name}\n")).collect();
     fs::write(&names, renamed).map_err(|error| format!("{names}: {error}"))?;

@@ -1,5 +1,5 @@
-//! The calls of an earlier library, beside those of the library itself: what the benchmarks call *before*. `build.rs` says which. It is
-//! one from before R-8, whose registers have no revision and whose replay is told none, and is called so: its logs are of revision 1.
+//! The calls of an earlier library, beside those of the library itself: what the benchmarks call *before*. `build.rs` says which. One
+//! from before R-8 has no revision in its registers and its replay is told none; it is called so, and its logs are of revision 1.
 use kixombu::exports::{Code, Memory, MemoryView};
 
 /// Each in the shape of its name in `kixombu::exports`.
@@ -30,8 +30,15 @@ mod linked {
 
     pub const CALLS: Calls = Calls { step, run, trace_execution, helper_variables, replay };
 
-    // A call with code and memory: on the registers but the revision and one slice more, with the number that stands in front of code
-    // and the bytes that stand behind memory, where it has them. Words are pointers to what it may change, or only reads.
+    /// The registers that the library has: all, or those but the revision, which stands last.
+    const REGISTERS: usize = if cfg!(since_r_8) { register::ALL } else { register::REVISION };
+
+    fn is_known(revision: u64) -> bool {
+        cfg!(since_r_8) || revision == 1
+    }
+
+    // A call with code and memory: on the registers and one slice more, with the number that stands in front of code and the bytes
+    // that stand behind memory, where it has them. Words are pointers to what it may change, or only reads.
     macro_rules! call {
         ($name:ident, $export:ident, $registers:ty, $memory:ty, $words:ty, $pointer:ident, [$($number:ident)?], [$($bytes:ident)?]) => {
             #[rustfmt::skip]
@@ -46,11 +53,11 @@ mod linked {
                         $($bytes: *mut u8, _: usize)?
                     ) -> u64;
                 }
-                assert_eq!(registers[register::REVISION], 1, "a library from before R-8 writes logs of revision 1 alone");
+                assert!(is_known(registers[register::REVISION]), "a library from before R-8 writes logs of revision 1 alone");
                 // SAFETY: each pointer goes with the length of its slice, which is borrowed for the call; the export asks for nothing else
                 unsafe {
                     $export(
-                        registers.$pointer(), register::REVISION, slice.as_mut_ptr(), slice.len(), $($number,)?
+                        registers.$pointer(), REGISTERS, slice.as_mut_ptr(), slice.len(), $($number,)?
                         c.opcodes.as_ptr(), c.opcodes.len(), c.arguments.as_ptr(), c.arguments.len(), c.public.as_ptr(), c.public.len(),
                         c.secret.as_ptr(), c.secret.len(), c.digests.as_ptr(), c.digests.len(),
                         m.op_stack.$pointer(), m.op_stack.len(), m.origins.$pointer(), m.origins.len(),
@@ -75,15 +82,15 @@ mod linked {
     ) -> u64 {
         extern "C" {
             fn before_triton_replay(
-                answer: *mut u64, _: usize, log: *const u8, _: usize, clock: u64, cells: u64,
+                answer: *mut u64, _: usize, log: *const u8, _: usize, #[cfg(since_r_8)] revision: u64, clock: u64, cells: u64,
                 addresses: *mut u64, _: usize, values: *mut u64, _: usize, words: *mut u64, _: usize,
             ) -> u64;
         }
-        assert_eq!(revision, 1, "a library from before R-8 reads logs of revision 1 alone");
+        assert!(is_known(revision), "a library from before R-8 reads logs of revision 1 alone");
         // SAFETY: as above
         unsafe {
             before_triton_replay(
-                answer.as_mut_ptr(), answer.len(), log.as_ptr(), log.len(), clock, cells,
+                answer.as_mut_ptr(), answer.len(), log.as_ptr(), log.len(), #[cfg(since_r_8)] revision, clock, cells,
                 addresses.as_mut_ptr(), addresses.len(), values.as_mut_ptr(), values.len(), words.as_mut_ptr(), words.len(),
             )
         }

@@ -1,10 +1,10 @@
-//! The library's calls beside the original Rust (`oracle bench`) on the same jobs, in one run: nanoseconds a step and ratios
-//! (below 1: the library is faster); and beside those of an earlier library, where BEFORE names its folder. The best turn of each
-//! counts. Opening and copying the state are not in the time.
+//! The library's calls beside the original Rust (`oracle bench`, `oracle bench-rows`) on the same jobs, in one run: nanoseconds a step
+//! and ratios (below 1: the library is faster); and beside those of an earlier library, where BEFORE names its folder. The best turn of
+//! each counts. Opening and copying the state are not in the time.
 use host::field::P;
 use host::instructions::named;
 use host::job::{Before, Job, Room, Start};
-use host::lent::{answer, ending, Calls, Machine, LIBRARY, STEP_BYTES};
+use host::lent::{answer, column, ending, Calls, Machine, LIBRARY, LONGEST, STEP_BYTES};
 use host::oracle::Oracle;
 use host::random::Random;
 use kixombu::exports::{step_registers, Registers};
@@ -21,10 +21,21 @@ const LARGE_STATES: usize = 16;
 /// From so many cells on.
 const MANY_CELLS: usize = 50_000;
 
+/// What is aimed at: the ratio of trace_rows, on plain jobs and on memory jobs of up to 4,000 cells.
+const PLAIN_ROWS: f64 = 0.4;
+const MEMORY_ROWS: f64 = 0.7;
+
 struct Case {
     name: &'static str,
     job: Job,
     room: Room,
+    rows_goal: Option<f64>,
+}
+
+impl Case {
+    fn rows_within(self, goal: f64) -> Case {
+        Case { rows_goal: Some(goal), ..self }
+    }
 }
 
 fn main() {
@@ -51,9 +62,11 @@ fn report(case: &Case, oracle: &Oracle) {
     let steps = ran[answer::STEPS];
     let has_many = case.room.cells >= MANY_CELLS;
     let mut states = first_states(&start, if has_many { LARGE_STATES } else { STATES_FOR_HELPERS });
-    let mut best = [f64::MAX; 5];
-    let mut earlier = [f64::MAX; 5];
-    let mut theirs = [f64::MAX; 3];
+    // one table for all turns: its memory is new in the first alone
+    let mut table = vec![0; ((steps as usize + 1) * column::ALL).min(LONGEST)];
+    let mut best = [f64::MAX; 6];
+    let mut earlier = [f64::MAX; 6];
+    let mut theirs = [f64::MAX; 4];
     for _ in 0..if has_many { LONG_TURNS } else { TURNS } {
         for (best, by) in [(&mut best, Some(LIBRARY)), (&mut earlier, before())] {
             let Some(by) = by else { continue };
@@ -61,24 +74,29 @@ fn report(case: &Case, oracle: &Oracle) {
             best.iter_mut().zip(turns).for_each(|(best, turn)| *best = best.min(turn));
         }
         best[4] = best[4].min(by_record(&start));
+        best[5] = best[5].min(by_rows(&start, steps, &mut table));
         for (name, time) in oracle.bench(&case.job, steps) {
-            let place = ["run", "step", "helpers"].iter().position(|known| *known == name).unwrap();
+            let place = ["run", "step", "helpers", "rows"].iter().position(|known| *known == name).unwrap();
             theirs[place] = theirs[place].min(time);
         }
     }
-    // running with records is the Rust's loop over step
+    // running with records is the Rust's loop over step, and with rows over its row, which has the helper variables, and step
     let rows = [
-        ("run", 0, theirs[0]),
-        ("trace_execution", 1, theirs[1]),
-        ("step", 2, theirs[1]),
-        ("step_registers", 4, theirs[1]),
-        ("helper_variables", 3, theirs[2]),
+        ("run", 0, theirs[0], None),
+        ("trace_execution", 1, theirs[1], None),
+        ("trace_rows", 5, theirs[3], case.rows_goal),
+        ("step", 2, theirs[1], None),
+        ("step_registers", 4, theirs[1], None),
+        ("helper_variables", 3, theirs[2], None),
     ];
-    for (call, place, theirs) in rows {
+    for (call, place, theirs, goal) in rows {
         let (ours, earlier) = (best[place], earlier[place]);
-        print!("{:<38}{call:<18}{ours:>12.1}{theirs:>10.1}{:>10.2}", case.name, ours / theirs);
-        // not measured: no earlier library, or over its register record, which is another
-        println!("{}", if earlier < f64::MAX { format!("{earlier:>12.1}{:>10.2}", ours / earlier) } else { String::new() });
+        let ratio = ours / theirs;
+        print!("{:<38}{call:<18}{ours:>12.1}{theirs:>10.1}{ratio:>10.2}", case.name);
+        // not measured: no earlier library, or over its register record, which is another, or with rows, which it may not have
+        print!("{}", if earlier < f64::MAX { format!("{earlier:>12.1}{:>10.2}", ours / earlier) } else { String::new() });
+        let missed = |goal| if ratio > goal { ", missed" } else { "" };
+        println!("{}", goal.map_or(String::new(), |goal| format!("   goal {goal}{}", missed(goal))));
     }
 }
 
@@ -103,13 +121,29 @@ fn by_run(start: &Machine, by: &Calls) -> f64 {
 }
 
 fn by_trace(start: &Machine, by: &Calls, steps: u64) -> f64 {
-    let mut log = vec![0; ((steps as usize + 1) * STEP_BYTES).min(1 << 24)];
+    let mut log = log_of(steps);
     per_step(|| {
         let mut machine = start.clone();
         let began = Instant::now();
         let ran = machine.trace_execution(by, u64::MAX, &mut log);
         (began.elapsed(), ran[answer::STEPS])
     })
+}
+
+/// The rows of the whole job in one table, or as many as it takes.
+fn by_rows(start: &Machine, steps: u64, table: &mut [u64]) -> f64 {
+    let mut log = log_of(steps);
+    per_step(|| {
+        let mut machine = start.clone();
+        let began = Instant::now();
+        let ran = machine.trace_rows(&LIBRARY, u64::MAX, &mut log, table);
+        (began.elapsed(), ran[answer::STEPS])
+    })
+}
+
+/// For so many steps, or as long as one may be.
+fn log_of(steps: u64) -> Vec<u8> {
+    vec![0; ((steps as usize + 1) * STEP_BYTES).min(LONGEST)]
 }
 
 fn by_step(start: &Machine, by: &Calls) -> f64 {
@@ -180,12 +214,12 @@ fn first_states(start: &Machine, most: usize) -> Vec<Machine> {
 fn cases() -> Vec<Case> {
     let plain = || loop_of(&["push 5", "push 7", "add", "pop 1", "nop", "swap 3", "swap 3"], 1000);
     vec![
-        case("plain instructions, small", plain(), 30, 16, 64, 0, 16),
-        case("plain instructions, middle", plain(), 300, 300, 512, 128, 256),
-        case("plain instructions, large", plain(), 1024, 2000, 4096, 1000, 4096),
-        case("plain, program of 1,024 slots", plain(), 1024, 16, 64, 0, 16),
-        case("plain, stack of 4,096 words", plain(), 30, 2000, 4096, 0, 16),
-        case("plain, 1,000 cells of 4,096", plain(), 30, 16, 64, 1000, 4096),
+        case("plain instructions, small", plain(), 30, 16, 64, 0, 16).rows_within(PLAIN_ROWS),
+        case("plain instructions, middle", plain(), 300, 300, 512, 128, 256).rows_within(PLAIN_ROWS),
+        case("plain instructions, large", plain(), 1024, 2000, 4096, 1000, 4096).rows_within(PLAIN_ROWS),
+        case("plain, program of 1,024 slots", plain(), 1024, 16, 64, 0, 16).rows_within(PLAIN_ROWS),
+        case("plain, stack of 4,096 words", plain(), 30, 2000, 4096, 0, 16).rows_within(PLAIN_ROWS),
+        case("plain, 1,000 cells of 4,096", plain(), 30, 16, 64, 1000, 4096).rows_within(PLAIN_ROWS),
         case(
             "u32 instructions",
             loop_of(&["push 9", "push 7", "and", "push 3", "div_mod", "lt", "pop 1"], 1000),
@@ -196,9 +230,9 @@ fn cases() -> Vec<Case> {
             16,
         ),
         case("hashing", hashing(), 30, 16, 64, 0, 16),
-        case("memory, 16 cells", memory(16), 30, 16, 64, 16, 16),
-        case("memory, 1,000 cells", memory(1000), 30, 16, 64, 1000, 1000),
-        case("memory, 4,000 cells", memory(4000), 30, 16, 64, 4000, 4096),
+        case("memory, 16 cells", memory(16), 30, 16, 64, 16, 16).rows_within(MEMORY_ROWS),
+        case("memory, 1,000 cells", memory(1000), 30, 16, 64, 1000, 1000).rows_within(MEMORY_ROWS),
+        case("memory, 4,000 cells", memory(4000), 30, 16, 64, 4000, 4096).rows_within(MEMORY_ROWS),
         case("memory, 100,000 cells", memory(100_000), 30, 16, 64, 100_000, 100_000),
         front("writes in front of 1,000 cells", 1000, 100),
         front("writes in front of 4,000 cells", 4000, 400),
@@ -223,7 +257,7 @@ fn case(
     let ram = (1..=cells as u64).map(|address| (address, address)).collect();
     let start = Start { stack: vec![0; depth], ..Start::default() };
     let job = Job { slots: slots_all, ram, budget: 10_000_000, start: Some(start), ..Job::default() };
-    Case { name, job, room: Room { stack, jumps: 16, cells: lent, output: 16 } }
+    Case { name, job, room: Room { stack, jumps: 16, cells: lent, output: 16 }, rows_goal: None }
 }
 
 /// A body that leaves the stack as it was, so many times.

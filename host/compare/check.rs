@@ -1,7 +1,8 @@
 //! One job three ways: what the oracle reports, the model and the library.
 use crate::cells::ascend;
+use crate::counts::Counts;
 use crate::job::{Before, Job, Room};
-use crate::lent::{answer, ending, step_bytes, Answer, Calls, Machine, LIBRARY};
+use crate::lent::{answer, column, ending, step_bytes, Answer, Calls, Machine, LIBRARY};
 use crate::model::{put_clock, MODEL};
 use crate::oracle::{End, Refused, Report, State};
 use crate::random::Random;
@@ -130,13 +131,15 @@ fn clocked(mut report: Report) -> Report {
     report
 }
 
-/// Everything that is compared of a job in a room, in each revision of the log. The report has the limits in it.
-pub fn check(job: &Job, report: &Report, room: Room, random: &mut Random) -> Checked<()> {
-    check_in(1, job, report, room, random)?;
-    check_in(2, job, &clocked(report.clone()), room, random)
+/// Everything that is compared of a job in a room, in each revision of the log. The report has the limits in it. How tracing with
+/// rows ended is counted.
+pub fn check(job: &Job, report: &Report, room: Room, random: &mut Random, counts: &mut Counts) -> Checked<()> {
+    check_in(1, job, report, room, random, counts)?;
+    check_in(2, job, &clocked(report.clone()), room, random, counts)
 }
 
-fn check_in(revision: u64, job: &Job, report: &Report, room: Room, random: &mut Random) -> Checked<()> {
+#[rustfmt::skip]
+fn check_in(revision: u64, job: &Job, report: &Report, room: Room, random: &mut Random, counts: &mut Counts) -> Checked<()> {
     let before = if job.start.is_some() { Before::random(random) } else { Before::default() };
     let check = Check { job, report, before, revision };
     let Some(opened) = &report.opened else {
@@ -155,7 +158,8 @@ fn check_in(revision: u64, job: &Job, report: &Report, room: Room, random: &mut 
     check.state("the start", opened, &start)?;
     check.steps(start.clone(), random)?;
     check.runs(&start, random)?;
-    check.traces(&start, random)
+    check.traces(&start, random)?;
+    check.rows(&start, random, counts)
 }
 
 struct Check<'a> {
@@ -181,6 +185,11 @@ impl Check<'_> {
             let what = format!("step {i}");
             let helpers = both.call(&format!("{what}, helper variables"), |machine, by| machine.helper_variables(by))?;
             same(&format!("{what}, helper variables"), ("oracle", &(0, step.helpers)), ("library", &helpers))?;
+            // of a step that is refused the model alone has a row
+            let row = both.call(&format!("{what}, row"), |machine, by| machine.processor_row(by))?;
+            if step.result.is_ok() {
+                same(&format!("{what}, row"), ("oracle", &(0, self.report.rows[i])), ("library", &row))?;
+            }
 
             let filling = random.next() as u8;
             let (answer, buffer) = both.call(&what, |machine, by| {
@@ -206,8 +215,8 @@ impl Check<'_> {
         Ok(())
     }
 
-    /// The answer, the state and the bytes of a run with this budget and, with a log, this length of it.
-    fn run_to(&self, budget: u64, log: Option<usize>) -> (Answer, &State, Vec<u8>) {
+    /// The answer, the state and the bytes of a run with this budget and, with a log or a table, this length of it.
+    fn run_to(&self, budget: u64, log: Option<usize>, table: Option<usize>) -> (Answer, &State, Vec<u8>) {
         let mut state = self.report.opened.as_ref().unwrap();
         let (mut taken, mut bytes) = (0, vec![]);
         let length = |bytes: &Vec<u8>| if log.is_some() { bytes.len() as u64 } else { 0 };
@@ -221,6 +230,9 @@ impl Check<'_> {
             }
             if log.is_some_and(|log| log - bytes.len() < step_bytes(self.revision)) {
                 break ended(ending::FULL, &bytes);
+            }
+            if table.is_some_and(|table| table - taken * column::ALL < column::ALL) {
+                break ended(ending::TABLE_FULL, &bytes);
             }
             let step = &self.report.tried[taken];
             state = &step.state;
@@ -252,7 +264,7 @@ impl Check<'_> {
             let what = format!("run, budget {budget}");
             let mut both = start.clone();
             let answer = both.call(&what, |machine, by| machine.run(by, budget))?;
-            let (expected, state, _) = self.run_to(budget, None);
+            let (expected, state, _) = self.run_to(budget, None, None);
             same(&what, ("oracle", &expected), ("library", &answer))?;
             self.state(&what, state, &both)?;
         }
@@ -262,7 +274,7 @@ impl Check<'_> {
     /// Logs: room for all, one byte less than a step needs at the start, and one between.
     fn traces(&self, start: &Both, random: &mut Random) -> Checked<()> {
         let budget = if self.report.end == End::Spent { self.report.steps } else { random.pick(&[u64::MAX, self.report.steps]) };
-        let all = self.run_to(budget, Some(usize::MAX)).2.len();
+        let all = self.run_to(budget, Some(usize::MAX), None).2.len();
         let most = step_bytes(self.revision);
         for room in [all + most, most - 1, random.index(all + 2 * most)] {
             let what = format!("trace_execution, budget {budget}, log of {room}");
@@ -272,11 +284,55 @@ impl Check<'_> {
                 let mut log = vec![filling; room];
                 (machine.trace_execution(by, budget, &mut log), log)
             })?;
-            let (expected, state, mut bytes) = self.run_to(budget, Some(room));
+            let (expected, state, mut bytes) = self.run_to(budget, Some(room), None);
             same(&what, ("oracle", &expected), ("library", &answer))?;
             bytes.resize(room, filling);
             same(&format!("{what}, bytes"), ("oracle", &bytes), ("library", &log))?;
             self.state(&what, state, &both)?;
+        }
+        Ok(())
+    }
+
+    /// Logs and tables: room for all and the step behind it; none in the table; in neither; and twice any, once with a long log.
+    fn rows(&self, start: &Both, random: &mut Random, counts: &mut Counts) -> Checked<()> {
+        let steps = self.report.steps;
+        let longest = if self.report.end == End::Spent { steps } else { u64::MAX };
+        let most = step_bytes(self.revision);
+        let bytes = self.run_to(longest, Some(usize::MAX), None).2.len() + most;
+        let words = (steps as usize + 1) * column::ALL;
+        let (short_log, short_table) = (random.index(most), random.index(column::ALL));
+        for (budget, log_room, table_room) in [
+            (longest, bytes, words + short_table),
+            (longest, bytes, short_table),
+            (longest, short_log, short_table),
+            (random.pick(&[longest, steps]), bytes, random.index(words)),
+            (random.between(0, steps), random.index(bytes + most), random.index(words + column::ALL)),
+        ] {
+            let what = format!("trace_rows, budget {budget}, log of {log_room}, table of {table_room}");
+            let filling = random.next();
+            let mut both = start.clone();
+            let (answer, log, table) = both.call(&what, |machine, by| {
+                let (mut log, mut table) = (vec![filling as u8; log_room], vec![filling; table_room]);
+                (machine.trace_rows(by, budget, &mut log, &mut table), log, table)
+            })?;
+            let (expected, state, mut bytes) = self.run_to(budget, Some(log_room), Some(table_room));
+            same(&what, ("oracle", &expected), ("library", &answer))?;
+            let mut rows = self.report.rows[..answer[answer::STEPS] as usize].concat();
+            let is_table_full = table_room - rows.len() < column::ALL;
+            bytes.resize(log_room, filling as u8);
+            rows.resize(table_room, filling);
+            same(&format!("{what}, bytes"), ("oracle", &bytes), ("library", &log))?;
+            same(&format!("{what}, rows"), ("oracle", &rows), ("library", &table))?;
+            self.state(&what, state, &both)?;
+            counts.note(match answer[answer::ENDING] {
+                ending::DONE => "rows, halted",
+                ending::SPENT => "rows, spent",
+                ending::FULL if is_table_full => "rows, both full",
+                ending::FULL => "rows, log full",
+                ending::TABLE_FULL => "rows, table full",
+                _ if answer[answer::STEPS] == 0 => "rows, refused at once",
+                _ => "rows, refused later",
+            });
         }
         Ok(())
     }
@@ -301,8 +357,15 @@ impl Check<'_> {
         let answer =
             both.call("trace_execution", |machine, by| machine.trace_execution(by, 1, &mut vec![0; step_bytes(self.revision)]))?;
         same("trace_execution", ("oracle", &expected), ("library", &answer))?;
+        let (answer, table) = both.call("trace_rows", |machine, by| {
+            let mut table = [u64::MAX; column::ALL];
+            (machine.trace_rows(by, 1, &mut vec![0; step_bytes(self.revision)], &mut table), table)
+        })?;
+        same("trace_rows", ("oracle", &(expected, [u64::MAX; column::ALL])), ("library", &(answer, table)))?;
         let helpers = both.call("helper variables", |machine, by| machine.helper_variables(by))?;
-        same("helper variables", ("oracle", &(number, [0; 6])), ("library", &helpers))
+        same("helper variables", ("oracle", &(number, [0; 6])), ("library", &helpers))?;
+        let row = both.call("row", |machine, by| machine.processor_row(by))?;
+        same("row", ("oracle", &(number, [0; column::ALL])), ("library", &row))
     }
 }
 

@@ -1,7 +1,9 @@
-//! What a comparison met: steps by instruction, refusals by number, and where a step's words of RAM were.
+//! What a comparison met: steps and rows by instruction, refusals by number, where a step's words of RAM were, and how tracing with
+//! rows ended.
 use crate::field::P;
 use crate::instructions::{decode, ALL};
 use crate::job::{Job, Room};
+use crate::lent::column;
 use crate::oracle::{End, Report, State};
 use kixombu::Record;
 use std::collections::BTreeMap;
@@ -26,6 +28,19 @@ const OF_RAM: [&str; 13] = [
     "refused, a cell left",
 ];
 
+/// How tracing with rows ends, and single rows that are no step's, that a comparison has to meet.
+const OF_ROWS: [&str; 9] = [
+    "rows, halted",
+    "rows, spent",
+    "rows, log full",
+    "rows, table full",
+    "rows, both full",
+    "rows, refused at once",
+    "rows, refused later",
+    "a row outside the program",
+    "a row from 2^32 on",
+];
+
 #[derive(Default)]
 pub struct Counts {
     pub jobs: u64,
@@ -36,8 +51,11 @@ pub struct Counts {
     /// By instruction.
     taken: BTreeMap<&'static str, u64>,
     refused: BTreeMap<&'static str, u64>,
+    /// Rows compared with the oracle's, by their current instruction.
+    rows: BTreeMap<&'static str, u64>,
     numbers: BTreeMap<u64, u64>,
-    of_ram: BTreeMap<&'static str, u64>,
+    /// Of RAM and of rows.
+    noted: BTreeMap<&'static str, u64>,
 }
 
 impl Counts {
@@ -48,8 +66,9 @@ impl Counts {
         self.short += other.short;
         other.taken.iter().for_each(|(name, count)| *self.taken.entry(name).or_default() += count);
         other.refused.iter().for_each(|(name, count)| *self.refused.entry(name).or_default() += count);
+        other.rows.iter().for_each(|(name, count)| *self.rows.entry(name).or_default() += count);
         other.numbers.iter().for_each(|(number, count)| *self.numbers.entry(*number).or_default() += count);
-        other.of_ram.iter().for_each(|(name, count)| *self.of_ram.entry(name).or_default() += count);
+        other.noted.iter().for_each(|(name, count)| *self.noted.entry(name).or_default() += count);
     }
 
     /// Counts what is compared of a job in a room, the first time or with some slices short.
@@ -65,6 +84,9 @@ impl Counts {
         for step in &report.tried {
             let slot = usize::try_from(before.pointer).ok().and_then(|pointer| job.slots.get(pointer));
             let name = slot.and_then(|slot| decode(slot.0)).map(|instruction| instruction.name);
+            if slot.is_none() {
+                self.note(if before.pointer >> 32 == 0 { "a row outside the program" } else { "a row from 2^32 on" });
+            }
             match &step.result {
                 Ok(records) => {
                     *self.taken.entry(name.unwrap()).or_default() += 1;
@@ -80,6 +102,12 @@ impl Counts {
             }
             before = &step.state;
         }
+        if is_first {
+            for row in &report.rows[..report.steps as usize] {
+                let instruction = decode(row[column::CI]).expect("a row has an instruction");
+                *self.rows.entry(instruction.name).or_default() += 1;
+            }
+        }
         let steps = report.tried.len() as u64;
         match (is_first, job.budget) {
             (false, _) => self.short += steps,
@@ -88,8 +116,8 @@ impl Counts {
         }
     }
 
-    fn note(&mut self, name: &'static str) {
-        *self.of_ram.entry(name).or_default() += 1;
+    pub fn note(&mut self, name: &'static str) {
+        *self.noted.entry(name).or_default() += 1;
     }
 
     /// Where the words of a step stand among the cells before it.
@@ -144,26 +172,33 @@ impl Counts {
     }
 
     pub fn print(&self) {
-        println!("{:<20}{:>12}{:>12}", "instruction", "taken", "refused");
+        println!("{:<20}{:>12}{:>12}{:>12}", "instruction", "taken", "refused", "rows");
         for instruction in &ALL {
             let count = |counts: &BTreeMap<_, u64>| counts.get(instruction.name).copied().unwrap_or(0);
-            println!("{:<20}{:>12}{:>12}", instruction.name, count(&self.taken), count(&self.refused));
+            let (taken, refused, rows) = (count(&self.taken), count(&self.refused), count(&self.rows));
+            println!("{:<20}{taken:>12}{refused:>12}{rows:>12}", instruction.name);
         }
         println!("{:<20}{:>12}", "number", "times");
         self.numbers.iter().for_each(|(number, count)| println!("{number:<20}{count:>12}"));
-        println!("{:<24}{:>8}", "RAM", "times");
-        self.of_ram.iter().for_each(|(name, count)| println!("{name:<24}{count:>8}"));
+        println!("{:<26}{:>8}", "RAM and rows", "times");
+        self.noted.iter().for_each(|(name, count)| println!("{name:<26}{count:>8}"));
         println!(
-            "{} jobs, {} steps, {} single steps; {} steps once more with less lent",
-            self.jobs, self.steps, self.singles, self.short
+            "{} jobs, {} steps, {} single steps, {} rows; {} steps once more with less lent",
+            self.jobs,
+            self.steps,
+            self.singles,
+            self.rows.values().sum::<u64>(),
+            self.short
         );
     }
 
-    /// Instructions never taken, numbers never given, and what was never done with RAM.
+    /// Instructions never taken or never met in a row, numbers never given, and what was never done with RAM or with rows.
     pub fn missing(&self) -> Vec<String> {
-        let instructions = ALL.iter().map(|instruction| instruction.name).filter(|name| !self.taken.contains_key(name));
-        let numbers = NUMBERS.iter().filter(|number| !self.numbers.contains_key(number));
-        let of_ram = OF_RAM.iter().filter(|name| !self.of_ram.contains_key(*name)).map(|name| format!("({name})"));
-        instructions.map(str::to_string).chain(numbers.map(u64::to_string)).chain(of_ram).collect()
+        let names = || ALL.iter().map(|instruction| instruction.name);
+        let instructions = names().filter(|name| !self.taken.contains_key(name)).map(str::to_string);
+        let rows = names().filter(|name| !self.rows.contains_key(name)).map(|name| format!("(a row of {name})"));
+        let numbers = NUMBERS.iter().filter(|number| !self.numbers.contains_key(number)).map(u64::to_string);
+        let noted = OF_RAM.iter().chain(&OF_ROWS).filter(|name| !self.noted.contains_key(*name)).map(|name| format!("({name})"));
+        instructions.chain(rows).chain(numbers).chain(noted).collect()
     }
 }

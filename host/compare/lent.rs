@@ -1,8 +1,10 @@
 //! What a call is handed, in the shape of the library's C interface.
 use kixombu::exports;
-pub use kixombu::exports::{answer, ending, register, step_bytes, Code, Memory, MemoryView, LONGEST, STEP_BYTES};
+pub use kixombu::exports::{answer, column, ending, register, step_bytes, Code, Memory, MemoryView, LONGEST, STEP_BYTES};
 
 pub type Answer = [u64; answer::ALL];
+/// The words of a row of the processor table.
+pub type Row = [u64; column::ALL];
 
 /// The calls of one side: the library's or the model's (`model::MODEL`). Each gives the number, 0 where not refused.
 #[derive(Clone, Copy)]
@@ -11,10 +13,12 @@ pub struct Calls {
     pub step: fn(Words, Words, Code, Memory, &mut [u8]) -> u64,
     pub run: fn(Words, Words, u64, Code, Memory) -> u64,
     pub trace_execution: fn(Words, Words, u64, Code, Memory, &mut [u8]) -> u64,
+    pub trace_rows: fn(Words, Words, u64, Code, Memory, &mut [u8], Words) -> u64,
     pub helper_variables: fn(&[u64], Words, Code, MemoryView) -> u64,
+    pub processor_row: fn(&[u64], Words, Code, MemoryView) -> u64,
 }
 
-/// Registers, answer or helper variables.
+/// Registers, answer, helper variables or rows.
 type Words<'a> = &'a mut [u64];
 
 /// The proved library.
@@ -23,7 +27,9 @@ pub const LIBRARY: Calls = Calls {
     step: exports::step,
     run: exports::run,
     trace_execution: exports::trace_execution,
+    trace_rows: exports::trace_rows,
     helper_variables: exports::helper_variables,
+    processor_row: exports::processor_row,
 };
 
 /// Everything that is lent but for answer and bytes, owned.
@@ -141,12 +147,27 @@ impl Machine {
         numbered(answer, number)
     }
 
+    pub fn trace_rows(&mut self, by: &Calls, budget: u64, log: &mut [u8], table: &mut [u64]) -> Answer {
+        let mut answer = [u64::MAX; answer::ALL];
+        let (registers, code, memory) = self.parts();
+        let number = (by.trace_rows)(registers, &mut answer, budget, code, memory, log, table);
+        numbered(answer, number)
+    }
+
     /// The number and the six words.
     pub fn helper_variables(&mut self, by: &Calls) -> (u64, [u64; 6]) {
         let mut helpers = [u64::MAX; 6];
         let (registers, code, memory) = self.parts();
         let number = (by.helper_variables)(registers, &mut helpers, code, memory.view());
         (number, helpers)
+    }
+
+    /// The number and the row.
+    pub fn processor_row(&mut self, by: &Calls) -> (u64, Row) {
+        let mut row = [u64::MAX; column::ALL];
+        let (registers, code, memory) = self.parts();
+        let number = (by.processor_row)(registers, &mut row, code, memory.view());
+        (number, row)
     }
 }
 

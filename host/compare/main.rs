@@ -33,6 +33,7 @@ fn jobs_of(piece: u64, random: &mut Random) -> Vec<Job> {
 fn compare_piece(seed: u64, piece: u64, oracle: &Oracle) -> Result<Counts, String> {
     let mut random = Random::for_piece(seed, piece);
     let jobs = jobs_of(piece, &mut random);
+    let mut rows = oracle.rows(piece, &jobs);
     let mut counts = Counts::default();
     let mut found = None;
     oracle.run(piece, &jobs, |place, report| {
@@ -40,11 +41,13 @@ fn compare_piece(seed: u64, piece: u64, oracle: &Oracle) -> Result<Counts, Strin
             return;
         }
         let job = &jobs[place];
-        let report = ordered(job, report);
+        let rows = std::mem::take(&mut rows[place]);
+        assert_eq!(rows.len() as u64, report.steps, "the oracle has a row for each step that succeeds");
+        let report = ordered(job, Report { rows, ..report });
         let mut compare = |report: Report, room: Room, is_first: bool, random: &mut Random| {
             let report = limited(report, room);
             counts.count(job, &report, room, is_first);
-            check(job, &report, room, random).err().map(|difference| (place, room, difference))
+            check(job, &report, room, random, &mut counts).err().map(|difference| (place, room, difference))
         };
         let most = used(job, &report);
         let mut spare = || random.index(3);

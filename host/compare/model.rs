@@ -4,11 +4,12 @@ mod execute;
 mod helpers;
 mod place_a;
 pub mod replay;
+mod row;
 #[cfg(test)]
 mod tests;
 
 use crate::instructions::decode;
-use crate::lent::{answer, ending, register, step_bytes, Calls, Code, Memory, MemoryView};
+use crate::lent::{answer, column, ending, register, step_bytes, Calls, Code, Memory, MemoryView};
 use crate::tip5::State;
 use kixombu::{bytes_of, Record};
 use place_a::{place_a, Handed};
@@ -196,9 +197,13 @@ fn pairs<'a>(left: &'a [u64], right: &'a [u64], n: usize) -> impl Iterator<Item 
 pub const MODEL: Calls = Calls {
     open,
     step,
-    run: |registers, answer, budget, code, memory| run(registers, answer, budget, code, memory, None),
-    trace_execution: |registers, answer, budget, code, memory, log| run(registers, answer, budget, code, memory, Some(log)),
+    run: |registers, answer, budget, code, memory| run(registers, answer, budget, code, memory, None, None),
+    trace_execution: |registers, answer, budget, code, memory, log| run(registers, answer, budget, code, memory, Some(log), None),
+    trace_rows: |registers, answer, budget, code, memory, log, table| {
+        run(registers, answer, budget, code, memory, Some(log), Some(table))
+    },
     helper_variables,
+    processor_row,
 };
 
 #[rustfmt::skip]
@@ -238,18 +243,35 @@ fn step(registers: &mut [u64], answer: &mut [u64], code: Code, mut memory: Memor
 }
 
 fn helper_variables(registers: &[u64], helpers: &mut [u64], code: Code, memory: MemoryView) -> u64 {
-    let number = place_a(&Handed::Helpers { registers, helpers }, code, memory);
-    if helpers.len() == 6 {
-        helpers.fill(0);
+    read(registers, helpers, 6, code, memory, |vm| vm.helpers(code))
+}
+
+fn processor_row(registers: &[u64], row: &mut [u64], code: Code, memory: MemoryView) -> u64 {
+    read(registers, row, column::ALL, code, memory, |vm| vm.row(code).to_vec())
+}
+
+/// A call that takes no step: so many words, those not given 0.
+fn read(
+    registers: &[u64],
+    words: &mut [u64],
+    count: usize,
+    code: Code,
+    memory: MemoryView,
+    given: impl Fn(&Vm) -> Vec<u64>,
+) -> u64 {
+    let number = place_a(&Handed::Read { registers, words, count }, code, memory);
+    if words.len() == count {
+        words.fill(0);
     }
     if number == 0 {
-        let words = Vm::new(registers, memory).helpers(code);
-        helpers[..words.len()].copy_from_slice(&words);
+        let given = given(&Vm::new(registers, memory));
+        words[..given.len()].copy_from_slice(&given);
     }
     number
 }
 
-/// `run`, and with a log `trace_execution`: halted is tried first, then spent, then whether the log is full, then a step.
+/// `run`, with a log `trace_execution`, with a table too `trace_rows`: halted is tried first, then spent, then whether the log is
+/// full, then whether the table is, then a step.
 fn run(
     registers: &mut [u64],
     answer: &mut [u64],
@@ -257,14 +279,16 @@ fn run(
     code: Code,
     mut memory: Memory,
     mut log: Option<&mut [u8]>,
+    mut table: Option<&mut [u64]>,
 ) -> u64 {
-    let number = place_a(&Handed::Run { registers, answer, log: log.as_deref().unwrap_or(&[]) }, code, memory.view());
+    let (all_log, all_rows) = (log.as_deref().unwrap_or(&[]), table.as_deref().unwrap_or(&[]));
+    let number = place_a(&Handed::Run { registers, answer, log: all_log, rows: all_rows }, code, memory.view());
     if number != 0 {
         return answered(answer, 0, refused(number), 0, 0);
     }
     let room = Room::of(&memory);
     let mut vm = Vm::new(registers, memory.view());
-    let (mut steps, mut bytes) = (0, 0);
+    let (mut steps, mut bytes, mut words) = (0, 0, 0);
     let (ending, end) = loop {
         if vm.halted {
             break (ending::DONE, Ok(()));
@@ -275,9 +299,17 @@ fn run(
         if log.as_ref().is_some_and(|log| log.len() - bytes < step_bytes(vm.revision)) {
             break (ending::FULL, Ok(()));
         }
+        if table.as_ref().is_some_and(|table| table.len() - words < column::ALL) {
+            break (ending::TABLE_FULL, Ok(()));
+        }
+        let row = table.as_ref().map(|_| vm.row(code));
         match vm.step(code, &room) {
             Ok(records) => {
                 steps += 1;
+                if let (Some(table), Some(row)) = (&mut table, row) {
+                    table[words..words + row.len()].copy_from_slice(&row);
+                    words += row.len();
+                }
                 if let Some(log) = &mut log {
                     let new = bytes_of(&records);
                     log[bytes..bytes + new.len()].copy_from_slice(&new);

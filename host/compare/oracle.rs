@@ -1,6 +1,6 @@
 //! Runs the oracle on job files and reads what it prints.
 use crate::job::Job;
-use crate::lent::{register, Machine};
+use crate::lent::{register, Machine, Row};
 use kixombu::Record;
 use std::io::{BufRead, BufReader};
 use std::path::{Path, PathBuf};
@@ -56,6 +56,8 @@ pub struct Report {
     pub steps: u64,
     /// Whether `VMState::run` came to the same; none where it is not printed.
     pub run_is_same: Option<bool>,
+    /// The row before each step that succeeded, where they were asked for ([`Oracle::rows`]).
+    pub rows: Vec<Row>,
 }
 
 pub struct Oracle {
@@ -79,39 +81,64 @@ impl Oracle {
 
     /// Runs the jobs, and gives each job's place and report in turn. `piece` keeps the files of threads apart.
     pub fn run(&self, piece: u64, jobs: &[Job], mut each: impl FnMut(usize, Report)) {
+        let mut current = (0, Report::default());
+        self.lines("run", piece, jobs, |place, line| {
+            if place != current.0 {
+                let (place, report) = std::mem::replace(&mut current, (place, Report::default()));
+                each(place, report);
+            }
+            read_line(line, &mut current.1);
+        });
+        each(current.0, current.1);
+    }
+
+    /// The rows of each job: the original's `to_processor_row` before each step that succeeds. None of one that does not open.
+    pub fn rows(&self, piece: u64, jobs: &[Job]) -> Vec<Vec<Row>> {
+        let mut rows = vec![vec![]; jobs.len()];
+        self.lines("rows", piece, jobs, |place, line| {
+            let mut words = Words(line.split_ascii_whitespace());
+            match words.word() {
+                "row" => rows[place].push(words.numbers()),
+                other => assert_eq!(other, "refused", "a line of the oracle"),
+            }
+        });
+        rows
+    }
+
+    /// The lines that the oracle prints for jobs, each with the job's place. It prints at least one for each by `run`.
+    fn lines(&self, verb: &str, piece: u64, jobs: &[Job], mut each: impl FnMut(usize, &str)) {
         let folder = self.folder.join(piece.to_string());
         std::fs::create_dir_all(&folder).unwrap();
         for (place, job) in jobs.iter().enumerate() {
             std::fs::write(folder.join(place.to_string()), job.file()).unwrap();
         }
         let mut command = Command::new(&self.program);
-        command.current_dir(&folder).arg("run").args((0..jobs.len()).map(|place| place.to_string()));
+        command.current_dir(&folder).arg(verb).args((0..jobs.len()).map(|place| place.to_string()));
         let mut process = command.stdout(Stdio::piped()).spawn().expect("the oracle runs");
-        let mut current = (jobs.len() == 1).then(|| (0, Report::default()));
+        // where there is one job alone, no line names it
+        let mut place = 0;
         for line in BufReader::with_capacity(1 << 20, process.stdout.take().unwrap()).lines() {
             let line = line.unwrap();
-            if let Some(place) = line.strip_prefix("job ") {
-                if let Some((place, report)) = current.replace((place.parse().unwrap(), Report::default())) {
-                    each(place, report);
-                }
-            } else {
-                read_line(&line, &mut current.as_mut().unwrap().1);
+            match line.strip_prefix("job ") {
+                Some(next) => place = next.parse().unwrap(),
+                None => each(place, &line),
             }
         }
-        let (place, report) = current.unwrap();
-        each(place, report);
         assert!(process.wait().unwrap().success(), "the oracle failed");
         std::fs::remove_dir_all(&folder).unwrap();
     }
 
-    /// What `oracle bench` prints of a job: nanoseconds per step by name (step, run, helpers).
+    /// What `oracle bench` and `oracle bench-rows` print of a job: nanoseconds per step by name (step, run, helpers, rows).
     pub fn bench(&self, job: &Job, steps: u64) -> Vec<(String, f64)> {
         let file = self.folder.join("bench");
         std::fs::write(&file, job.file()).unwrap();
-        let output = Command::new(&self.program).arg("bench").arg(&file).arg(steps.to_string()).output().unwrap();
-        assert!(output.status.success(), "{}", String::from_utf8_lossy(&output.stderr));
-        let text = String::from_utf8(output.stdout).unwrap();
-        text.lines()
+        let times = ["bench", "bench-rows"].map(|verb| {
+            let output = Command::new(&self.program).arg(verb).arg(&file).arg(steps.to_string()).output().unwrap();
+            assert!(output.status.success(), "{}", String::from_utf8_lossy(&output.stderr));
+            String::from_utf8(output.stdout).unwrap()
+        });
+        let lines = times.iter().flat_map(|text| text.lines());
+        lines
             .map(|line| {
                 let mut words = line.split(' ');
                 let name = words.next().unwrap().to_string();

@@ -6,16 +6,18 @@ use host::lent::{Calls, Code, Memory};
 /// Everything that a call is lent, each slice between its guards.
 pub struct Arena {
     slices: [Guarded<u64>; 12],
-    /// The answer, or the helper variables.
+    /// The answer, or the helper variables, or the row.
     answer: Guarded<u64>,
     digest: Guarded<u64>,
+    table: Guarded<u64>,
     bytes: Guarded<u8>,
 }
 
 impl Arena {
     pub fn new(guard: u64) -> Arena {
         let words = || Guarded::new(guard);
-        Arena { slices: core::array::from_fn(|_| words()), answer: words(), digest: words(), bytes: Guarded::new(guard as u8) }
+        let slices = core::array::from_fn(|_| words());
+        Arena { slices, answer: words(), digest: words(), table: words(), bytes: Guarded::new(guard as u8) }
     }
 
     /// Calls on a copy of the input, and gives the number.
@@ -25,18 +27,21 @@ impl Arena {
         }
         self.answer.set(&input.answer);
         self.digest.set(&input.digest);
+        self.table.set(&input.table);
         self.bytes.set(&input.bytes);
         let [registers, opcodes, arguments, public, secret, digests, op_stack, origins, destinations, addresses, values, output] =
             self.slices.each_mut().map(|guarded| guarded.slice());
         let code = Code { opcodes, arguments, public, secret, digests };
         let memory = Memory { op_stack, origins, destinations, addresses, values, output };
-        let (answer, digest, bytes) = (self.answer.slice(), self.digest.slice(), self.bytes.slice());
+        let (answer, digest, table, bytes) = (self.answer.slice(), self.digest.slice(), self.table.slice(), self.bytes.slice());
         match export {
             Export::Open => (by.open)(registers, answer, input.revision, digest, input.cells, code, memory),
             Export::Step => (by.step)(registers, answer, code, memory, bytes),
             Export::Run => (by.run)(registers, answer, input.budget, code, memory),
             Export::Trace => (by.trace_execution)(registers, answer, input.budget, code, memory, bytes),
+            Export::Rows => (by.trace_rows)(registers, answer, input.budget, code, memory, bytes, table),
             Export::Helpers => (by.helper_variables)(registers, answer, code, memory.view()),
+            Export::Row => (by.processor_row)(registers, answer, code, memory.view()),
         }
     }
 
@@ -50,7 +55,11 @@ impl Arena {
                 return Some(format!("{name}: {:?} and {:?}", self.slices[i].inside(), other.slices[i].inside()));
             }
         }
-        for (name, mine, theirs) in [("answer", &self.answer, &other.answer), ("digest", &self.digest, &other.digest)] {
+        for (name, mine, theirs) in [
+            ("answer", &self.answer, &other.answer),
+            ("digest", &self.digest, &other.digest),
+            ("table", &self.table, &other.table),
+        ] {
             if !mine.is_intact() {
                 return Some(format!("{name}: a guard was written to"));
             }
@@ -70,6 +79,8 @@ impl Arena {
     /// Whether everything lent is as it was handed in, but for the answer.
     pub fn is_unchanged(&self, input: &Input) -> bool {
         let slices = self.slices.iter().zip(input.machine.slices());
-        slices.into_iter().all(|(guarded, slice)| guarded.holds(slice)) && self.bytes.holds(&input.bytes)
+        slices.into_iter().all(|(guarded, slice)| guarded.holds(slice))
+            && self.bytes.holds(&input.bytes)
+            && self.table.holds(&input.table)
     }
 }

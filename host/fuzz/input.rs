@@ -4,7 +4,7 @@ use host::check::least;
 use host::field::P;
 use host::instructions::{named, ALL};
 use host::job::{Before, Job, Room};
-use host::lent::{answer, register, step_bytes, Machine, STEP_BYTES};
+use host::lent::{answer, column, register, step_bytes, Machine, STEP_BYTES};
 use host::programs::{program, remembering, wild};
 use host::random::Random;
 use host::states::{single, OF_RAM};
@@ -15,10 +15,13 @@ pub enum Export {
     Step,
     Run,
     Trace,
+    Rows,
     Helpers,
+    Row,
 }
 
-pub const EXPORTS: [Export; 5] = [Export::Open, Export::Step, Export::Run, Export::Trace, Export::Helpers];
+pub const EXPORTS: [Export; 7] =
+    [Export::Open, Export::Step, Export::Run, Export::Trace, Export::Rows, Export::Helpers, Export::Row];
 
 impl Export {
     pub fn name(self) -> &'static str {
@@ -27,14 +30,22 @@ impl Export {
             Export::Step => "triton_step",
             Export::Run => "triton_run",
             Export::Trace => "triton_trace_execution",
+            Export::Rows => "triton_trace_rows",
             Export::Helpers => "triton_helper_variables",
+            Export::Row => "triton_processor_row",
         }
     }
 
-    /// How long the answer has to be; the helper variables have its place.
+    /// Whether it takes steps up to a budget.
+    pub fn has_budget(self) -> bool {
+        matches!(self, Export::Run | Export::Trace | Export::Rows)
+    }
+
+    /// How long the answer has to be; the helper variables and the row have its place.
     fn answer_length(self) -> usize {
         match self {
             Export::Helpers => 6,
+            Export::Row => column::ALL,
             _ => answer::ALL,
         }
     }
@@ -43,12 +54,14 @@ impl Export {
 #[derive(Clone, Debug)]
 pub struct Input {
     pub machine: Machine,
-    /// The answer, or the helper variables.
+    /// The answer, or the helper variables, or the row.
     pub answer: Vec<u64>,
     /// Of the log, for open.
     pub revision: u64,
     pub digest: Vec<u64>,
     pub bytes: Vec<u8>,
+    /// For rows.
+    pub table: Vec<u64>,
     pub cells: u64,
     pub budget: u64,
 }
@@ -89,13 +102,14 @@ fn arbitrary(export: Export, random: &mut Random) -> Input {
         *slice = (0..length).map(|_| number(random, small)).collect();
     }
     let mut length = |fitting: usize| if shaped || random.once_in(2) { fitting } else { random.index(2 * fitting) };
-    let lengths = [length(export.answer_length()), length(5), length(STEP_BYTES)];
+    let lengths = [length(export.answer_length()), length(5), length(STEP_BYTES), length(column::ALL)];
     Input {
         machine,
         answer: (0..lengths[0]).map(|_| random.next()).collect(),
         revision: any_revision(random),
         digest: (0..lengths[1]).map(|_| number(random, small)).collect(),
         bytes: vec![random.next() as u8; lengths[2]],
+        table: vec![random.next(); lengths[3]],
         cells: random.below(40),
         budget: random.below(20),
     }
@@ -113,7 +127,7 @@ fn number(random: &mut Random, small: bool) -> u64 {
 /// What place A accepts.
 fn sound(export: Export, random: &mut Random) -> Input {
     let job = match random.below(12) {
-        0 if matches!(export, Export::Run | Export::Trace) => {
+        0 if export.has_budget() => {
             if random.once_in(2) {
                 program(random)
             } else {
@@ -131,7 +145,7 @@ fn sound(export: Export, random: &mut Random) -> Input {
         }
     };
     let budget = if random.once_in(8) { random.below(300) } else { random.below(8) };
-    let steps = if matches!(export, Export::Run | Export::Trace) { budget as usize } else { 1 };
+    let steps = if export.has_budget() { budget as usize } else { 1 };
     let room = room(&job, steps, random);
     let machine = match job.start {
         None => opened(&job, room, random),
@@ -143,9 +157,16 @@ fn sound(export: Export, random: &mut Random) -> Input {
     };
     let bytes = match export {
         Export::Step => step_bytes(machine.registers[register::REVISION]) + random.index(2),
-        Export::Trace => {
+        Export::Trace | Export::Rows => {
             let most = random.pick(&[2_000, 4_000, 20_000]);
             random.index(most)
+        }
+        _ => 0,
+    };
+    let words = match export {
+        Export::Rows => {
+            let most = random.pick(&[2, 8, 100]);
+            random.index(most * column::ALL)
         }
         _ => 0,
     };
@@ -155,6 +176,7 @@ fn sound(export: Export, random: &mut Random) -> Input {
         revision: random.between(1, 2),
         digest: random.words(5),
         bytes: vec![random.next() as u8; bytes],
+        table: vec![random.next(); words],
         cells: random.below(job.ram.len() as u64 + 1),
         budget,
     }
@@ -192,7 +214,8 @@ fn any_revision(random: &mut Random) -> u64 {
 /// One place changed.
 fn damage(input: &mut Input, random: &mut Random) {
     let registers = &mut input.machine.registers;
-    match random.below(22) {
+    match random.below(23) {
+        22 => resize(&mut input.table, random),
         20 => input.revision = any_revision(random),
         21 => registers.get_mut(register::REVISION).into_iter().for_each(|word| *word = any_revision(random)),
         0 => resize(&mut input.answer, random),

@@ -1,7 +1,7 @@
 //! The longest slices: one of the limit's length is taken, one longer is refused with 1. And RAM of the limit's length, used up.
 use crate::by_record::BY_RECORD;
 use host::instructions::named;
-use host::lent::{answer, register, Machine, LIBRARY, LONGEST, STEP_BYTES};
+use host::lent::{answer, column, ending, register, Machine, LIBRARY, LONGEST, STEP_BYTES};
 use host::model::MODEL;
 
 /// Slices that have to be of one length go together; the digests are in fives.
@@ -27,6 +27,7 @@ pub fn check() {
     }
     calls(&mut small(), LONGEST, 0);
     buffers(&mut small(), LONGEST + 1, 1);
+    tables();
     println!("slices of 16,777,216 elements are taken, longer ones refused");
     full_ram();
     println!("16,777,216 used cells are kept in order");
@@ -88,8 +89,8 @@ fn small() -> Machine {
 /// Each call on the machine; one step behind it is halted.
 fn calls(machine: &mut Machine, buffer: usize, expected: u64) {
     for by in [&LIBRARY, &MODEL] {
-        let (number, _) = machine.helper_variables(by);
-        assert_eq!(number, expected);
+        let ((number, _), (row_number, _)) = (machine.helper_variables(by), machine.processor_row(by));
+        assert_eq!((number, row_number), (expected, expected));
         assert_eq!(machine.run(by, 0)[answer::NUMBER], expected);
         assert_eq!(machine.open(by, 1, &[0; 5], 0)[answer::NUMBER], expected);
     }
@@ -104,6 +105,27 @@ fn buffers(machine: &mut Machine, length: usize, expected: u64) {
         assert_eq!(machine.step(by, &mut buffer)[answer::NUMBER], expected);
         machine.registers = before.clone();
         assert_eq!(machine.trace_execution(by, 1, &mut buffer)[answer::NUMBER], expected);
+        machine.registers = before.clone();
+        assert_eq!(machine.trace_rows(by, 1, &mut buffer, &mut [0; column::ALL])[answer::NUMBER], expected);
         machine.registers = before;
     }
+}
+
+/// Tables of the limit's length and longer; and the longest one filled by nops, which record nothing, so that the log never gets full.
+fn tables() {
+    for by in [&LIBRARY, &MODEL] {
+        for (length, number) in [(LONGEST, 0), (LONGEST + 1, 1)] {
+            let (mut machine, mut table) = (small(), vec![7; length]);
+            assert_eq!(machine.trace_rows(by, 1, &mut [0; STEP_BYTES], &mut table)[answer::NUMBER], number);
+            let written = if number == 0 { column::ALL } else { 0 };
+            assert_eq!(table.iter().skip(written).find(|word| **word != 7), None);
+        }
+    }
+    let mut machine = small();
+    (machine.opcodes, machine.arguments) = (vec![named("nop").opcode; LONGEST], vec![0; LONGEST]);
+    let (mut table, rows) = (vec![7; LONGEST], LONGEST / column::ALL);
+    let answer = machine.trace_rows(&LIBRARY, u64::MAX, &mut [0; STEP_BYTES], &mut table);
+    assert_eq!((answer[answer::ENDING], answer[answer::STEPS]), (ending::TABLE_FULL, rows as u64));
+    let clocks = table.chunks_exact(column::ALL).map(|row| row[column::CLK]);
+    assert!(clocks.eq(0..rows as u64) && table[rows * column::ALL..].iter().all(|word| *word == 7));
 }

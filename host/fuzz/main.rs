@@ -62,7 +62,7 @@ fn compare(export: Export, input: &Input, [first, second, expected]: &mut [Arena
         if let Some(text) = arena.difference(expected) {
             return Err(text);
         }
-        let may_change = matches!(export, Export::Run | Export::Trace) && number >= 10 || number == 11 && is_at_skiz(input);
+        let may_change = export.has_budget() && number >= 10 || number == 11 && is_at_skiz(input);
         if number != 0 && !may_change && !arena.is_unchanged(input) {
             return Err(format!("refused with {number}, and something is changed"));
         }

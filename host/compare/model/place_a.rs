@@ -3,12 +3,12 @@ use crate::field::P;
 use crate::instructions::decode;
 use crate::lent::{answer, register, step_bytes, Code, MemoryView, LONGEST};
 
-/// What a call takes besides code and memory.
+/// What a call takes besides code and memory. `Read` is of those that take no step, and give so many words.
 pub enum Handed<'a> {
     Open { registers: &'a [u64], answer: &'a [u64], revision: u64, digest: &'a [u64], cells: u64 },
     Step { registers: &'a [u64], answer: &'a [u64], calls: &'a [u8] },
-    Run { registers: &'a [u64], answer: &'a [u64], log: &'a [u8] },
-    Helpers { registers: &'a [u64], helpers: &'a [u64] },
+    Run { registers: &'a [u64], answer: &'a [u64], log: &'a [u8], rows: &'a [u64] },
+    Read { registers: &'a [u64], words: &'a [u64], count: usize },
 }
 
 /// The number; 0 where nothing is wrong.
@@ -19,7 +19,7 @@ pub fn place_a(handed: &Handed, code: Code, memory: MemoryView) -> u64 {
     // the registers handed in; open has none, but a revision and a count of cells
     let (registers, revision, digest, cells) = match *handed {
         Handed::Open { revision, digest, cells, .. } => (None, revision, digest, cells),
-        Handed::Step { registers, .. } | Handed::Run { registers, .. } | Handed::Helpers { registers, .. } => {
+        Handed::Step { registers, .. } | Handed::Run { registers, .. } | Handed::Read { registers, .. } => {
             (Some(registers), registers[register::REVISION], &[][..], registers[register::CELLS])
         }
     };
@@ -79,10 +79,10 @@ fn lengths_fit(handed: &Handed, code: Code, memory: MemoryView) -> bool {
                 && registers.len() == register::ALL
                 && (step_bytes(registers[register::REVISION])..=LONGEST).contains(&calls.len())
         }
-        Handed::Run { registers, answer, log } => {
-            answer.len() == answer::ALL && registers.len() == register::ALL && log.len() <= LONGEST
+        Handed::Run { registers, answer, log, rows } => {
+            answer.len() == answer::ALL && registers.len() == register::ALL && log.len().max(rows.len()) <= LONGEST
         }
-        Handed::Helpers { registers, helpers } => helpers.len() == 6 && registers.len() == register::ALL,
+        Handed::Read { registers, words, count } => words.len() == count && registers.len() == register::ALL,
     };
     own && code.opcodes.len().max(code.arguments.len()) <= LONGEST
         && code.public.len().max(code.secret.len()).max(code.digests.len()) <= LONGEST

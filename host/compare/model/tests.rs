@@ -1,9 +1,9 @@
-//! The order of RAM's cells and the log's revision, on small machines; and replay.
+//! The order of RAM's cells, the log's revision and rows, on small machines; and replay.
 use super::replay::{replay, replay_by_bytes, word};
 use super::MODEL;
 use crate::field::P;
 use crate::instructions::named;
-use crate::lent::{answer, register, Machine, STEP_BYTES};
+use crate::lent::{answer, column, ending, register, Machine, Row, STEP_BYTES};
 use crate::random::Random;
 use kixombu::{bytes_of, Record};
 
@@ -93,7 +93,7 @@ fn place_a_asks_for_ascending_cells() {
         machine.registers[register::CELLS] = used;
         let before = machine.clone();
         let number = step(&mut machine);
-        assert_eq!(machine.helper_variables(&MODEL).0, number);
+        assert_eq!((machine.helper_variables(&MODEL).0, machine.processor_row(&MODEL).0), (number, number));
         let opened = before.clone().open(&MODEL, 1, &[0; 5], used)[answer::NUMBER];
         assert_eq!(opened, number);
         let replayed = replay(&mut [0; 3], &[], 1, 0, used, &mut addresses.to_vec(), &mut vec![1; addresses.len()], &mut []);
@@ -348,6 +348,69 @@ fn other_revisions_are_refused() {
         machine.opcodes[0] = 5;
         assert_eq!(number(&machine, least), 3);
     }
+}
+
+/// vm.rs, `to_processor_row`: every column, with another word in each.
+#[test]
+fn the_columns_of_a_row() {
+    let top: Vec<u64> = (100..116).collect();
+    let mut machine = machine("eq", 0, &[], 0, &top);
+    (machine.opcodes, machine.arguments) = (vec![8, 8, 8, named("eq").opcode, 57], vec![0, 0, 0, 0, 2]);
+    (machine.registers[register::CLOCK], machine.registers[register::POINTER], machine.registers[register::JUMPS]) = (9, 3, 2);
+    (machine.origins, machine.destinations) = (vec![20, 21], vec![30, 31]);
+    // eq is 58, and its helper variable the inverse of ST1 - ST0, which is -1
+    let bits = [0, 1, 0, 1, 1, 1, 0];
+    let stack = [115, 114, 113, 112, 111, 110, 109, 108, 107, 106, 105, 104, 103, 102, 101, 100];
+    let expected: Vec<u64> = [&[9, 3, 58, 57][..], &bits, &[2, 21, 31], &stack, &[32], &[P - 1, 0, 0, 0, 0, 0]].concat();
+    assert_eq!((machine.processor_row(&MODEL).0, machine.processor_row(&MODEL).1.to_vec()), (0, expected));
+}
+
+#[test]
+fn rows_without_a_next_slot_and_outside() {
+    let row = |name: &str, argument, pointer| -> Row {
+        let mut machine = machine(name, argument, &[], 0, &[]);
+        machine.registers[register::POINTER] = pointer;
+        let (number, row) = machine.processor_row(&MODEL);
+        assert_eq!(number, 0);
+        row
+    };
+    let first = |row: Row| [row[column::IP], row[column::CI], row[column::NIA], row[column::IB + 3], row[column::HV]];
+    assert_eq!(first(row("halt", 0, 0)), [0, 0, 1, 0, 0]);
+    assert_eq!(first(row("push", 5, 0)), [0, 1, 5, 0, 0]);
+    assert_eq!(first(row("swap", 5, 0)), [0, 41, 5, 1, 1]);
+    for (pointer, cut) in [(1, 1), ((1 << 32) - 1, (1 << 32) - 1), (1 << 32, 0), ((5 << 32) + 6, 6), (P - 1, 0)] {
+        assert_eq!(first(row("swap", 5, pointer)), [cut, 8, 0, 1, 0], "{pointer}");
+        assert_eq!(row("swap", 5, pointer)[column::HV..], [0; 6]);
+    }
+}
+
+/// Halted, spent, log full, table full; a refused step has no row, and what is behind the rows stays.
+#[test]
+fn what_ends_a_table() {
+    let mut start = machine("push", 3, &[], 0, &[]);
+    (start.opcodes, start.arguments) = (vec![1, 1, 8, 0], vec![3, 3, 0, 0]);
+    start.op_stack.push(0);
+    let trace = |machine: &Machine, budget, log: usize, table: usize| {
+        let (mut machine, mut log, mut table) = (machine.clone(), vec![9; log], vec![9; table]);
+        let answer = machine.trace_rows(&MODEL, budget, &mut log, &mut table);
+        let steps = answer[answer::STEPS];
+        assert!(table[steps as usize * column::ALL..].iter().all(|word| *word == 9));
+        (answer[answer::ENDING], answer[answer::NUMBER], steps)
+    };
+    let words = column::ALL;
+    assert_eq!(trace(&start, 9, 2000, 3 * words), (ending::DONE, 0, 3));
+    assert_eq!(trace(&start, 2, 2000, 3 * words), (ending::SPENT, 0, 2));
+    assert_eq!(trace(&start, 0, 0, 0), (ending::SPENT, 0, 0));
+    assert_eq!(trace(&start, 9, 1023, 0), (ending::FULL, 0, 0));
+    assert_eq!(trace(&start, 9, 1024, words - 1), (ending::TABLE_FULL, 0, 0));
+    // the first step records 25 bytes
+    assert_eq!(trace(&start, 9, 1048, words), (ending::FULL, 0, 1));
+    assert_eq!(trace(&start, 9, 1049, words), (ending::TABLE_FULL, 0, 1));
+    // without the halt
+    start.opcodes.pop();
+    start.arguments.pop();
+    assert_eq!(trace(&start, 9, 2000, 3 * words), (ending::REFUSED, 11, 2));
+    assert_eq!(trace(&start, 9, 2000, 3 * words - 1), (ending::TABLE_FULL, 0, 2));
 }
 
 /// The clock of kinds 6 and 7 is that before the step, and moves replay's last clock.

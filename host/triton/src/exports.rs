@@ -68,6 +68,36 @@ pub mod ending {
     pub const FULL: u64 = 2;
     /// The answer has the number and its words.
     pub const REFUSED: u64 = 3;
+    /// The table of rows is full, and the log is not.
+    pub const TABLE_FULL: u64 = 4;
+}
+
+/// Places in a row of the processor table. [`Row`](crate::Row) says what stands there.
+pub mod column {
+    /// The clock.
+    pub const CLK: usize = 0;
+    /// The instruction pointer.
+    pub const IP: usize = 1;
+    /// The current instruction.
+    pub const CI: usize = 2;
+    /// The next instruction or the argument.
+    pub const NIA: usize = 3;
+    /// The first of the seven digits of the current instruction.
+    pub const IB: usize = 4;
+    /// The jump stack's length.
+    pub const JSP: usize = 11;
+    /// The origin on top of the jump stack.
+    pub const JSO: usize = 12;
+    /// The destination there.
+    pub const JSD: usize = 13;
+    /// The first of the op stack's top sixteen words.
+    pub const ST: usize = 14;
+    /// The op stack's depth.
+    pub const OP_STACK_POINTER: usize = 30;
+    /// The first of the six helper variables.
+    pub const HV: usize = 31;
+    /// How many words there are.
+    pub const ALL: usize = 37;
 }
 
 /// Places in replay's answer slice.
@@ -150,7 +180,7 @@ pub struct MemoryView<'a> {
 }
 
 impl Memory<'_> {
-    /// For [`helper_variables`], which only reads.
+    /// For [`helper_variables`] and [`processor_row`], which only read.
     pub fn view(&self) -> MemoryView<'_> {
         let Memory { op_stack, origins, destinations, addresses, values, output } = self;
         MemoryView { op_stack, origins, destinations, addresses, values, output }
@@ -209,9 +239,26 @@ extern "C" {
         calls: *mut u8, _: usize,
     ) -> u64;
 
+    // exports/src/calls.rt: triton_trace_rows(registers, answer, budget, code, memory, calls, rows)
+    fn triton_trace_rows(
+        registers: MutWords, _: usize, answer: MutWords, _: usize, budget: u64,
+        opcodes: Words, _: usize, arguments: Words, _: usize, public: Words, _: usize, secret: Words, _: usize, digests: Words, _: usize,
+        op_stack: MutWords, _: usize, origins: MutWords, _: usize, destinations: MutWords, _: usize,
+        addresses: MutWords, _: usize, values: MutWords, _: usize, output: MutWords, _: usize,
+        calls: *mut u8, _: usize, rows: MutWords, _: usize,
+    ) -> u64;
+
     // exports/src/calls.rt: triton_helper_variables(registers, helpers, code, memory); all but the helpers are only read
     fn triton_helper_variables(
         registers: Words, _: usize, helpers: MutWords, _: usize,
+        opcodes: Words, _: usize, arguments: Words, _: usize, public: Words, _: usize, secret: Words, _: usize, digests: Words, _: usize,
+        op_stack: Words, _: usize, origins: Words, _: usize, destinations: Words, _: usize,
+        addresses: Words, _: usize, values: Words, _: usize, output: Words, _: usize,
+    ) -> u64;
+
+    // exports/src/calls.rt: triton_processor_row(registers, row, code, memory); all but the row is only read
+    fn triton_processor_row(
+        registers: Words, _: usize, row: MutWords, _: usize,
         opcodes: Words, _: usize, arguments: Words, _: usize, public: Words, _: usize, secret: Words, _: usize, digests: Words, _: usize,
         op_stack: Words, _: usize, origins: Words, _: usize, destinations: Words, _: usize,
         addresses: Words, _: usize, values: Words, _: usize, output: Words, _: usize,
@@ -301,11 +348,30 @@ pub fn trace_execution(registers: &mut [u64], answer: &mut [u64], budget: u64, c
         code, memory, as_mut_ptr, [log.as_mut_ptr(), log.len()])
 }
 
+/// `triton_trace_rows`: [`trace_execution`], and the row before each step that succeeds, 37 words, one behind the other at the start
+/// of `rows`; the words behind them are kept.
+#[rustfmt::skip]
+pub fn trace_rows(
+    registers: &mut [u64], answer: &mut [u64], budget: u64, code: Code, memory: Memory, log: &mut [u8], rows: &mut [u64],
+) -> u64 {
+    call!(triton_trace_rows,
+        [registers.as_mut_ptr(), registers.len(), answer.as_mut_ptr(), answer.len(), budget],
+        code, memory, as_mut_ptr, [log.as_mut_ptr(), log.len(), rows.as_mut_ptr(), rows.len()])
+}
+
 /// `triton_helper_variables`: the six words of the next step.
 #[rustfmt::skip]
 pub fn helper_variables(registers: &[u64], helpers: &mut [u64], code: Code, memory: MemoryView) -> u64 {
     call!(triton_helper_variables,
         [registers.as_ptr(), registers.len(), helpers.as_mut_ptr(), helpers.len()],
+        code, memory, as_ptr, [])
+}
+
+/// `triton_processor_row`: the 37 words of the machine's row.
+#[rustfmt::skip]
+pub fn processor_row(registers: &[u64], row: &mut [u64], code: Code, memory: MemoryView) -> u64 {
+    call!(triton_processor_row,
+        [registers.as_ptr(), registers.len(), row.as_mut_ptr(), row.len()],
         code, memory, as_ptr, [])
 }
 

@@ -1,6 +1,7 @@
 //! A job over memory of its own.
 use crate::exports::{self, answer, ending, register, Code, Memory, MemoryView, LONGEST, STEP_BYTES};
 use crate::replay::{replay, Replayed};
+use crate::rows::{rows, Row, Rows};
 use crate::{Refusal, Revision};
 use std::fmt::{Debug, Formatter, Result as Formatted};
 use std::sync::Once;
@@ -78,8 +79,12 @@ pub enum Ending {
     Halted,
     /// As many steps succeeded as the budget allows, and the machine has not halted.
     Spent,
-    /// Of [`Job::trace_execution`]: the log has no room for a further step, which takes up to [`Revision::step_bytes`] bytes.
+    /// Of [`Job::trace_execution`] and [`Job::trace_rows`]: the log has no room for a further step, which takes up to
+    /// [`Revision::step_bytes`] bytes.
     LogFull,
+    /// Of [`Job::trace_rows`]: the table has no room for a further row, of [`Row::WORDS`] words. Where the log has none either,
+    /// it is [`LogFull`](Self::LogFull).
+    TableFull,
     /// A step was refused; those before it are kept.
     Refused(Refusal),
 }
@@ -90,7 +95,7 @@ pub enum Ending {
 pub struct Ran {
     /// How it ended.
     pub ending: Ending,
-    /// How many steps succeeded.
+    /// How many steps succeeded, and so how many rows [`Job::trace_rows`] has written.
     pub steps: u64,
     /// How many bytes of the log were written.
     pub bytes: usize,
@@ -186,15 +191,50 @@ impl Job {
         ran(&answer)
     }
 
+    /// [`trace_execution`](Self::trace_execution), and the rows of the processor table: for each step that succeeds, the halt's too,
+    /// the machine before it. They stand at the start of the table, of up to [`LONGEST`] words, [`Row::WORDS`] to a row; the words
+    /// behind them are kept. Where log or table gets full the job can go on with empty ones, as
+    /// [`rows_in_pieces`](crate::listing::rows_in_pieces) does.
+    ///
+    /// ```
+    /// use kixombu::{Ending, Job, Opening, Row, Sizes, Slot};
+    ///
+    /// // push 3; push 4; halt
+    /// let slots = [(1, 3), (1, 3), (1, 4), (1, 4), (0, 0)];
+    /// let program = slots.map(|(opcode, argument)| Slot { opcode, argument }).to_vec();
+    /// let mut job = Job::open(&Opening { program, ..Opening::default() }, Sizes::RUNJOB).unwrap();
+    /// let (mut log, mut table) = (vec![0; 10_000], vec![0; 2 * Row::WORDS]);
+    /// let (ran, rows) = job.trace_rows(1_000, &mut log, &mut table);
+    /// assert_eq!((ran.ending, ran.steps), (Ending::TableFull, 2));
+    /// let rows: Vec<(u64, u64, u64)> = rows.map(|row| (row.clk, row.nia, row.st[0])).collect();
+    /// assert_eq!(rows, [(0, 3, 0), (1, 4, 3)]);
+    /// let (ran, mut rows) = job.trace_rows(1_000, &mut log, &mut table);
+    /// assert_eq!((ran.ending, rows.next().unwrap().st[..2].to_vec(), rows.next()), (Ending::Halted, vec![4, 3], None));
+    /// ```
+    pub fn trace_rows<'a>(&mut self, budget: u64, log: &mut [u8], table: &'a mut [u64]) -> (Ran, Rows<'a>) {
+        let mut answer = [0; answer::ALL];
+        let (registers, code, memory, _) = self.parts();
+        exports::trace_rows(registers, &mut answer, budget, code, memory, log, table);
+        let ran = ran(&answer);
+        (ran, rows(&table[..ran.steps as usize * Row::WORDS]))
+    }
+
     /// The helper variables of the next step.
     pub fn helper_variables(&self) -> Result<[u64; 6], Refusal> {
         let mut helpers = [0; 6];
-        let Job { opcodes, arguments, public, secret, digests, op_stack, origins, destinations, .. } = self;
-        let Job { addresses, values, output, .. } = self;
-        let code = Code { opcodes, arguments, public, secret, digests };
-        let memory = MemoryView { op_stack, origins, destinations, addresses, values, output };
-        match exports::helper_variables(&self.registers, &mut helpers, code, memory) {
+        let (registers, code, memory) = self.view();
+        match exports::helper_variables(registers, &mut helpers, code, memory) {
             0 => Ok(helpers),
+            number => Err(refusal(number, [0; 3])),
+        }
+    }
+
+    /// The row of the processor table for the next step, whether it will succeed or not.
+    pub fn processor_row(&self) -> Result<Row, Refusal> {
+        let mut words = [0; Row::WORDS];
+        let (registers, code, memory) = self.view();
+        match exports::processor_row(registers, &mut words, code, memory) {
+            0 => Ok(Row::of(&words)),
             number => Err(refusal(number, [0; 3])),
         }
     }
@@ -210,6 +250,14 @@ impl Job {
         let code = Code { opcodes, arguments, public, secret, digests };
         let Job { addresses, values, output, registers, calls, .. } = self;
         (registers, code, Memory { op_stack, origins, destinations, addresses, values, output }, calls)
+    }
+
+    /// The same, only to be read.
+    fn view(&self) -> (&[u64], Code<'_>, MemoryView<'_>) {
+        let Job { opcodes, arguments, public, secret, digests, op_stack, origins, destinations, .. } = self;
+        let code = Code { opcodes, arguments, public, secret, digests };
+        let Job { addresses, values, output, registers, .. } = self;
+        (registers, code, MemoryView { op_stack, origins, destinations, addresses, values, output })
     }
 }
 
@@ -323,6 +371,7 @@ fn ran(answer: &[u64; answer::ALL]) -> Ran {
         ending::DONE => Ending::Halted,
         ending::SPENT => Ending::Spent,
         ending::FULL => Ending::LogFull,
+        ending::TABLE_FULL => Ending::TableFull,
         _ => Ending::Refused(refusal(answer[answer::NUMBER], words)),
     };
     Ran { ending, steps: answer[answer::STEPS], bytes: answer[answer::BYTES] as usize }

@@ -1,7 +1,7 @@
 //! The proved step core of Triton VM (the static library of the crate `exports`), for Rust.
 //!
 //! A proving service opens a [`Job`] with a program and its inputs, steps or runs it, takes the helper variables, and records the
-//! call log, which [`replay`] reads back. Every call is proved to answer any words and slices as its definition says or to refuse
+//! call log, which [`replay`] reads back, and the [rows](Row) of the processor table. Every call is proved to answer any words and slices as its definition says or to refuse
 //! them, with a [`Refusal`]. What is proved is the library; this crate hands it memory and gives its words names.
 //!
 //! ```
@@ -28,8 +28,8 @@
 //! # Ok::<(), Refusal>(())
 //! ```
 //!
-//! [`text`] makes job files from text, [`JobFile`] reads them and [`listing`] prints a job as document 01's runjob does; the
-//! command `kixombu` has all three. [`exports`] has the calls on slices, and step over a register record, for who lends memory
+//! [`text`] makes job files from text, [`JobFile`] reads them, [`listing`] prints a job as document 01's runjob does and
+//! [`Profile`] counts what ran; the command `kixombu` has all four. [`exports`] has the calls on slices, and step over a register record, for who lends memory
 //! of their own.
 pub mod exports;
 pub mod frame;
@@ -38,11 +38,13 @@ mod job;
 mod job_file;
 pub mod listing;
 mod order;
+mod profile;
 mod records;
 mod refusal;
 mod registers;
 mod replay;
 mod revision;
+mod rows;
 pub mod text;
 
 pub use exports::{LONGEST, STEP_BYTES};
@@ -50,10 +52,12 @@ pub use frame::Fault;
 pub use job::{Ending, Job, Opening, Ran, Sizes, Slot};
 pub use job_file::JobFile;
 pub use order::OutOfOrder;
+pub use profile::{Function, Heights, Profile};
 pub use records::{bytes_of, records, records_of, Record};
 pub use refusal::Refusal;
 pub use replay::{replay, Replayed};
 pub use revision::Revision;
+pub use rows::{rows, Row, Rows};
 
 /// Words are whole numbers below this one, 2^64 - 2^32 + 1.
 pub const P: u64 = 0xffff_ffff_0000_0001;

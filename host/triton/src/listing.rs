@@ -1,7 +1,8 @@
-//! What document 01's runjob prints, and a job's records piece by piece.
+//! What document 01's runjob prints, and a job's records and rows piece by piece.
 use crate::job::{Ending, Job, Ran, Sizes};
 use crate::job_file::JobFile;
 use crate::records::{records, Record};
+use crate::rows::{rows, Row, Rows};
 use crate::Refusal;
 use std::io::{Error, Result, Write};
 use std::time::{Duration, Instant};
@@ -49,27 +50,43 @@ pub fn print(file: &[u8], out: &mut impl Write, mut watch: impl FnMut(u64)) -> R
 
 /// A piece's log. Each piece checks the whole machine again, so that it should not be short.
 const PIECE_BYTES: usize = 1 << 20;
+/// The rows of a piece's table, where it has one: some 5 MB.
+const PIECE_ROWS: usize = 1 << 14;
 /// A piece takes twice the steps of the last one, as long as that took less.
 const PIECE_TIME: Duration = Duration::from_millis(200);
 
 /// Runs a job to its budget in pieces, so that its log may be of any length. `each` gets the records of a piece and the steps
 /// taken so far; its error ends the run.
 pub fn trace_in_pieces(job: &mut Job, budget: u64, mut each: impl FnMut(&[u8], u64) -> Result<()>) -> Result<Ran> {
-    let mut log = vec![0; PIECE_BYTES];
+    in_pieces(job, budget, 0, |log, _, steps| each(log, steps))
+}
+
+/// The same with the rows of the processor table: `each` gets the records of a piece, its rows and the steps taken so far.
+pub fn rows_in_pieces(job: &mut Job, budget: u64, each: impl FnMut(&[u8], Rows, u64) -> Result<()>) -> Result<Ran> {
+    in_pieces(job, budget, PIECE_ROWS, each)
+}
+
+/// With a table of so many rows; without one there are none.
+fn in_pieces(job: &mut Job, budget: u64, most_rows: usize, mut each: impl FnMut(&[u8], Rows, u64) -> Result<()>) -> Result<Ran> {
+    let (mut log, mut table) = (vec![0; PIECE_BYTES], vec![0; most_rows * Row::WORDS]);
     let mut piece: u64 = 10_000;
     let mut all = Ran { ending: Ending::Spent, steps: 0, bytes: 0 };
     loop {
         let began = Instant::now();
-        let ran = job.trace_execution(piece.min(budget - all.steps), &mut log);
+        let budget_left = piece.min(budget - all.steps);
+        let (ran, rows) = match most_rows {
+            0 => (job.trace_execution(budget_left, &mut log), rows(&[])),
+            _ => job.trace_rows(budget_left, &mut log, &mut table),
+        };
         if began.elapsed() < PIECE_TIME {
-            // pieces that end by a full log may be many
+            // pieces that end by a full log or table may be many
             piece = piece.saturating_mul(2);
         }
         all = Ran { ending: ran.ending, steps: all.steps + ran.steps, bytes: all.bytes + ran.bytes };
-        each(&log[..ran.bytes], all.steps)?;
+        each(&log[..ran.bytes], rows, all.steps)?;
         let goes_on = match ran.ending {
             Ending::Spent => all.steps < budget,
-            Ending::LogFull => true,
+            Ending::LogFull | Ending::TableFull => true,
             Ending::Halted | Ending::Refused(_) => false,
         };
         if !goes_on {

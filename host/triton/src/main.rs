@@ -1,8 +1,10 @@
 //! kixombu: jobs and their logs on the command line.
 #![forbid(unsafe_code)]
-use kixombu::listing::{print, trace_in_pieces, Printed};
+use kixombu::instructions::decode;
+use kixombu::listing::{print, rows_in_pieces, trace_in_pieces, Printed};
 use kixombu::{
-    exports, records, records_of, replay, text, Ending, Job, JobFile, Opening, OutOfOrder, Refusal, Revision, Sizes, LONGEST,
+    exports, records, records_of, replay, text, Ending, Job, JobFile, Opening, OutOfOrder, Profile, Refusal, Revision, Row, Rows,
+    Sizes, LONGEST,
 };
 use std::ffi::{OsStr, OsString};
 use std::fmt::Display;
@@ -18,6 +20,8 @@ kixombu run JOB                            runs a job and lists it as runjob doe
 kixombu record JOB LOG [REVISION]          runs a job and writes its call log
 kixombu replay JOB LOG CLOCK [REVISION]    replays a log from the job's opening RAM up to a clock: depth, cells, stack, RAM
 kixombu show LOG                           a log's records, one to a line
+kixombu rows JOB [--csv]                   runs a job and prints its processor table, a row to a line, or as CSV
+kixombu profile JOB                        runs a job and counts what ran, and the rows of the prover's tables
 kixombu --help | --version
 
 A file - is standard input or standard output; without JOB, make writes to standard output.
@@ -27,6 +31,12 @@ A text has one item to a line or between semicolons, and remarks behind #:
     loop: addi -1; dup 0; skiz; recurse; return
 Also slot OPCODE ARGUMENT, a slot as it is, and byte N. The digest comes first; ram's addresses ascend; -1 stands for p - 1.
 A log's revision is 1, or 2, in which tip5 and u32 records have a clock; without REVISION it is 1. show reads both.
+A row is the machine before a step that succeeds, the halt's too: CLK IP CI NIA IB0 to IB6 JSP JSO JSD ST0 to ST15
+OpStackPointer HV0 to HV5. The table has the instruction's name in front; CSV has a line of the columns' names and no name.
+profile counts how often each instruction ran; each function, by the slot that call names, with its steps without those of
+functions that it called; and the heights of tables, without padding: processor, the steps that succeeded, the halt's too;
+op stack and RAM, their records; hash, six for each tip5 record and one for each reset, without the program's own hashing;
+U32, for each distinct u32 record 1 where its larger operand, of pow the right one, is 0, else 2 and its binary logarithm.
 A job is lent 4,096 op stack words, 1,024 jump stack entries, 4,096 RAM cells and 4,096 output words; without a budget it
 may take 16,000,000 steps.
 
@@ -76,6 +86,9 @@ fn dispatch(words: &[&OsStr]) -> Outcome {
         ("record", [job, log, rest @ ..]) if rest.len() < 2 => record(job, log, revision(rest)?),
         ("replay", [job, log, clock, rest @ ..]) if rest.len() < 2 => replay_to(job, log, clock, revision(rest)?),
         ("show", [log]) => show(log),
+        ("rows", [job]) => rows(job, Shape::Table),
+        ("rows", [job, csv]) if *csv == "--csv" => rows(job, Shape::Csv),
+        ("profile", [job]) => profile(job),
         _ => {
             let usage = HELP.lines().find(|line| line.starts_with(&format!("kixombu {verb} ")));
             let usage = usage.and_then(|line| line.split("  ").next()).map(|usage| format!("usage: {usage}"));
@@ -137,23 +150,16 @@ fn revision(word: &[&OsStr]) -> Result<Revision, Failure> {
 }
 
 fn record(job_name: &OsStr, log_name: &OsStr, revision: Revision) -> Outcome {
-    let job_file = job_file(job_name, &read(job_name, JobFile::MOST_BYTES)?)?;
-    let opening = &Opening { revision, ..job_file.opening };
-    let mut job = Job::open(opening, Sizes::RUNJOB).map_err(|refusal| not_opened(job_name, refusal, &opening.ram))?;
+    let (mut job, budget) = opened(job_name, revision)?;
     let mut out = create(log_name)?;
-    let mut progress = Progress::new(job_file.budget.into());
-    let ran = trace_in_pieces(&mut job, job_file.budget.into(), |bytes, steps| {
+    let mut progress = Progress::new(budget);
+    let ran = trace_in_pieces(&mut job, budget, |bytes, steps| {
         progress.show(steps);
         out.write_all(bytes)
     })
     .and_then(|ran| out.flush().map(|()| ran))
     .map_err(|error| at(log_name, error))?;
-    let end = match ran.ending {
-        Ending::Halted => "halted".to_string(),
-        Ending::Refused(refusal) => format!("refused: {refusal}"),
-        _ => "its budget is spent".to_string(),
-    };
-    note(format!("{} steps, {} bytes; {end}", ran.steps, ran.bytes));
+    note(format!("{} steps, {} bytes; {}", ran.steps, ran.bytes, said(ran.ending)));
     if ran.bytes > LONGEST {
         note(format!("warning: replay takes logs of up to {LONGEST} bytes"));
     }
@@ -209,12 +215,96 @@ fn show(log_name: &OsStr) -> Outcome {
     Ok(0)
 }
 
+enum Shape {
+    Table,
+    Csv,
+}
+
+fn rows(job_name: &OsStr, shape: Shape) -> Outcome {
+    let (mut job, budget) = opened(job_name, Revision::default())?;
+    let mut progress = Progress::new(budget);
+    let mut out = BufWriter::with_capacity(1 << 16, io::stdout().lock());
+    let mut table = Table::default();
+    if let Shape::Csv = shape {
+        writeln!(out, "{}", Row::COLUMNS.join(","))?;
+    }
+    let ran = rows_in_pieces(&mut job, budget, |_, mut rows, steps| {
+        progress.show(steps);
+        match shape {
+            Shape::Table => table.print(rows, &mut out),
+            Shape::Csv => rows.try_for_each(|row| writeln!(out, "{}", row.to_words().map(|word| word.to_string()).join(","))),
+        }
+    })?;
+    out.flush()?;
+    note(format!("{} rows; {}", ran.steps, said(ran.ending)));
+    Ok(ended(ran.ending))
+}
+
+/// Rows in columns as wide as their words. A later piece may need wider ones, since not all rows are there at once.
+#[derive(Default)]
+struct Table {
+    widths: Option<[usize; Row::WORDS]>,
+}
+
+impl Table {
+    fn print(&mut self, rows: Rows, out: &mut impl Write) -> io::Result<()> {
+        let is_first = self.widths.is_none();
+        let widths = self.widths.get_or_insert(Row::COLUMNS.map(str::len));
+        for row in rows.clone() {
+            let digits = row.to_words().map(|word| word.checked_ilog10().unwrap_or(0) as usize + 1);
+            widths.iter_mut().zip(digits).for_each(|(width, digits)| *width = digits.max(*width));
+        }
+        let mut line = |name: &str, words: [String; Row::WORDS]| {
+            write!(out, "{name:<17}")?;
+            words.iter().zip(*widths).try_for_each(|(word, width)| write!(out, " {word:>width$}"))?;
+            writeln!(out)
+        };
+        if is_first {
+            line("instruction", Row::COLUMNS.map(str::to_string))?;
+        }
+        for row in rows {
+            let name = decode(row.ci).map_or("", |instruction| instruction.name);
+            line(name, row.to_words().map(|word| word.to_string()))?;
+        }
+        Ok(())
+    }
+}
+
+fn profile(job_name: &OsStr) -> Outcome {
+    let (mut job, budget) = opened(job_name, Revision::default())?;
+    let mut progress = Progress::new(budget);
+    let mut profile = Profile::default();
+    let ran = rows_in_pieces(&mut job, budget, |log, rows, steps| {
+        progress.show(steps);
+        profile.add(log, rows).map_err(io::Error::other)
+    })?;
+    say(&profile.to_string())?;
+    note(format!("{} steps; {}", ran.steps, said(ran.ending)));
+    Ok(ended(ran.ending))
+}
+
+fn said(ending: Ending) -> String {
+    match ending {
+        Ending::Halted => "halted".to_string(),
+        Ending::Refused(refusal) => format!("refused: {refusal}"),
+        _ => "its budget is spent".to_string(),
+    }
+}
+
 fn ended(ending: Ending) -> u8 {
     match ending {
         Ending::Halted => 0,
         Ending::Refused(_) => 1,
         _ => 3,
     }
+}
+
+/// The job of a file, and its budget.
+fn opened(name: &OsStr, revision: Revision) -> Result<(Job, u64), Failure> {
+    let JobFile { opening, budget } = job_file(name, &read(name, JobFile::MOST_BYTES)?)?;
+    let opening = Opening { revision, ..opening };
+    let job = Job::open(&opening, Sizes::RUNJOB).map_err(|refusal| not_opened(name, refusal, &opening.ram))?;
+    Ok((job, budget.into()))
 }
 
 fn job_file(name: &OsStr, file: &[u8]) -> Result<JobFile, Failure> {

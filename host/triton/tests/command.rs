@@ -238,16 +238,135 @@ fn record_says_how_the_job_ended() {
     assert!(text(&output.stderr).contains("NotAWord (2)"));
 }
 
+/// add.job's rows, written by hand. The table has the same words behind the instruction's name, in columns.
+#[test]
+fn rows_as_csv_and_as_a_table() {
+    let names =
+        "CLK,IP,CI,NIA,IB0,IB1,IB2,IB3,IB4,IB5,IB6,JSP,JSO,JSD,ST0,ST1,ST2,ST3,ST4,ST5,ST6,ST7,ST8,ST9,ST10,ST11,ST12,ST13,\
+                 ST14,ST15,OpStackPointer,HV0,HV1,HV2,HV3,HV4,HV5";
+    let words = [
+        "0,0,1,3,1,0,0,0,0,0,0,0,0,0,0,0,0,0,0,0,0,0,0,0,0,1,2,3,4,5,16,0,0,0,0,0,0",
+        "1,2,1,4,1,0,0,0,0,0,0,0,0,0,3,0,0,0,0,0,0,0,0,0,0,0,1,2,3,4,17,0,0,0,0,0,0",
+        "2,4,42,19,0,1,0,1,0,1,0,0,0,0,4,3,0,0,0,0,0,0,0,0,0,0,0,1,2,3,18,0,0,0,0,0,0",
+        "3,5,19,1,1,1,0,0,1,0,0,0,0,0,7,0,0,0,0,0,0,0,0,0,0,0,1,2,3,4,17,1,0,0,0,0,0",
+        "4,7,0,1,0,0,0,0,0,0,0,0,0,0,0,0,0,0,0,0,0,0,0,0,0,1,2,3,4,5,16,0,0,0,0,0,0",
+    ];
+    let output = kixombu(&["rows", &job("add.job"), "--csv"], b"");
+    ends(&output, 0, "kixombu: 5 rows; halted\n");
+    assert_eq!(text(&output.stdout), format!("{names}\n{}\n", words.join("\n")));
+
+    let output = kixombu(&["rows", &job("add.job")], b"");
+    ends(&output, 0, "kixombu: 5 rows; halted\n");
+    let table = text(&output.stdout);
+    let instructions = ["instruction", "push", "push", "add", "write_io", "halt"];
+    for ((line, instruction), words) in table.lines().zip(instructions).zip([&[names][..], &words].concat()) {
+        let expected: Vec<&str> = [instruction].into_iter().chain(words.split(',')).collect();
+        assert_eq!(line.split_whitespace().collect::<Vec<_>>(), expected);
+        assert_eq!(line.len(), table.lines().next().unwrap().len());
+    }
+    assert_eq!(table.lines().count(), 6);
+}
+
+/// The status and the last line are as of record; a job that does not open has no table.
+#[test]
+fn rows_say_how_the_job_ended() {
+    let output = kixombu(&["rows", &job("assert.job"), "--csv"], b"");
+    let said = "refused: AssertionFailed (18): assert needs 1 on top of the stack, found 2";
+    ends(&output, 1, &format!("kixombu: 3 rows; {said}\n"));
+    assert_eq!(text(&output.stdout).lines().count(), 1 + 3);
+    ends(&kixombu(&["profile", &job("assert.job")], b""), 1, &format!("kixombu: 3 steps; {said}\n"));
+    ends(&kixombu(&["rows", &job("spent.job")], b""), 3, "kixombu: 1000 rows; its budget is spent\n");
+    for verb in ["rows", "profile"] {
+        let output = kixombu(&[verb, &job("not_a_word.job")], b"");
+        let said = "NotAWord (2): words must be below 2^64 - 2^32 + 1, found one that is not";
+        ends(&output, 1, &format!("kixombu: {}: {said}\n", job("not_a_word.job")));
+        assert_eq!(output.stdout, b"");
+        let output = kixombu(&[verb, "-"], b"");
+        ends(
+            &output,
+            1,
+            "kixombu: -: JobFileBroken (50): the job file is broken, byte 0: the file is empty, a digest is needed\n",
+        );
+    }
+    // a job without rows has the names all the same
+    let made = kixombu(&["make", "-"], b"digest 1 2 3 4 5; pop 1").stdout;
+    let output = kixombu(&["rows", "-", "--csv"], &made);
+    assert_eq!((output.status.code(), text(&output.stdout).lines().count()), (Some(1), 1));
+    let output = kixombu(&["rows", "-"], &made);
+    assert_eq!((output.status.code(), text(&output.stdout).lines().count()), (Some(1), 1));
+}
+
+/// A job of more rows than are held at once.
+#[test]
+fn long_tables() {
+    let made = kixombu(&["make", "-"], b"digest 1 2 3 4 5; budget 50001; call f; f: push 1; pop 1; recurse").stdout;
+    let output = kixombu(&["rows", "-", "--csv"], &made);
+    ends(&output, 3, "kixombu: 50001 rows; its budget is spent\n");
+    let table = text(&output.stdout);
+    assert_eq!(table.lines().count(), 50_002);
+    assert!(table.lines().skip(1).enumerate().all(|(clock, line)| line.starts_with(&format!("{clock},"))));
+    let output = kixombu(&["profile", "-"], &made);
+    ends(&output, 3, "kixombu: 50001 steps; its budget is spent\n");
+    let lines = text(&output.stdout);
+    for line in ["pop 16667", "recurse 16666", "push 16667", "call 1", "2 1 50000", "processor 50001", "op stack 33334"] {
+        let is_met = lines.lines().any(|found| found.split_whitespace().collect::<Vec<_>>().join(" ") == line);
+        assert!(is_met, "{line} is not in\n{lines}");
+    }
+}
+
+#[test]
+fn profiles() {
+    let profile = |program: &str| {
+        let made = kixombu(&["make", "-"], format!("digest 1 2 3 4 5; {program}").as_bytes());
+        let output = kixombu(&["profile", "-"], &made.stdout);
+        assert_eq!(output.status.code(), Some(0));
+        text(&output.stdout)
+    };
+    let expected = "\
+instruction                times
+skiz                           2
+dup                            2
+addi                           2
+halt                           1
+push                           1
+return                         1
+recurse                        1
+call                           1
+function at slot           calls       steps
+5                              1           8
+table                     height
+processor                     11
+op stack                       5
+RAM                            0
+hash                           0
+U32                            0
+";
+    assert_eq!(profile("push 2; call f; halt; f: addi -1; dup 0; skiz; recurse; return"), expected);
+    // two functions, of which the second runs in the first: its steps are its own
+    let nested = profile("call f; call f; halt; f: nop; call g; nop; return; g: return");
+    let (from, to) = (nested.find("function").unwrap(), nested.find("table").unwrap());
+    let functions: Vec<String> = nested[from..to].lines().skip(1).map(|line| line.replace(' ', "")).collect();
+    assert_eq!(functions, ["528", "1022"]);
+    // and of 9 and 7 twice, 5 rows; split of 8, 5 rows; a reset and a permutation; two words of RAM written and one read
+    let hashes = "push 7; push 9; and; push 7; push 9; and; push 8; split; sponge_init; sponge_squeeze";
+    let heights = profile(&format!("{hashes}; push 30; write_mem 2; push 30; read_mem 1; halt"));
+    let heights = &heights[heights.find("table").unwrap()..];
+    let heights: Vec<&str> = heights.lines().skip(1).map(|line| line.split_whitespace().next_back().unwrap()).collect();
+    assert_eq!(heights, ["15", "23", "3", "7", "10"]);
+}
+
 #[test]
 fn usage() {
     let output = kixombu(&["--help"], b"");
     ends(&output, 0, "");
-    ["make TEXT", "run JOB", "record JOB LOG", "replay JOB LOG CLOCK", "show LOG", "Exit status"]
+    ["make TEXT", "run JOB", "record JOB LOG", "replay JOB LOG CLOCK", "show LOG", "rows JOB", "profile JOB", "Exit status"]
         .iter()
         .for_each(|part| assert!(text(&output.stdout).contains(part), "{part}"));
     assert_eq!(text(&kixombu(&["--version"], b"").stdout), "kixombu 0.1.0\n");
     ends(&kixombu(&["jump"], b""), 2, "kixombu: jump: no such verb; see kixombu --help\n");
     ends(&kixombu(&["run"], b""), 2, "kixombu: usage: kixombu run JOB\n");
+    ends(&kixombu(&["rows", "a", "--tsv"], b""), 2, "kixombu: usage: kixombu rows JOB [--csv]\n");
+    ends(&kixombu(&["profile"], b""), 2, "kixombu: usage: kixombu profile JOB\n");
     ends(&kixombu(&["make", "a", "b", "c"], b""), 2, "kixombu: usage: kixombu make TEXT [JOB]\n");
     assert_eq!(kixombu(&["show", "--help"], b"").stdout, output.stdout);
     for revision in ["0", "3", "two"] {

@@ -1,5 +1,5 @@
 //! The calls over slices where no safe call comes: lengths that do not fit, the clock's end, and unused cells.
-use kixombu::exports::{self, answer, register, replayed, Code, Memory, Registers, STEP_BYTES};
+use kixombu::exports::{self, answer, column, register, replayed, Code, Memory, Registers, STEP_BYTES};
 
 const NO_CODE: Code = Code { opcodes: &[], arguments: &[], public: &[], secret: &[], digests: &[] };
 
@@ -17,7 +17,9 @@ fn lengths_that_do_not_fit() {
         assert_eq!(exports::step(&mut registers, &mut answer, NO_CODE, memory(&mut []), &mut [0; STEP_BYTES]), 1);
         assert_eq!(exports::run(&mut registers, &mut answer, 1, NO_CODE, memory(&mut [])), 1);
         assert_eq!(exports::trace_execution(&mut registers, &mut answer, 1, NO_CODE, memory(&mut []), &mut []), 1);
+        assert_eq!(exports::trace_rows(&mut registers, &mut answer, 1, NO_CODE, memory(&mut []), &mut [], &mut []), 1);
         assert_eq!(exports::helper_variables(&registers, &mut answer, NO_CODE, memory(&mut []).view()), 1);
+        assert_eq!(exports::processor_row(&registers, &mut answer, NO_CODE, memory(&mut []).view()), 1);
         assert_eq!(exports::replay(&mut answer, &[], 1, 0, 0, &mut [], &mut [], &mut []), 1);
         assert_eq!((registers, answer), ([7; register::ALL], vec![9; length]));
     }
@@ -101,6 +103,12 @@ fn revisions_that_there_are_not() {
         let run = exports::run(&mut registers.clone(), &mut answer, 1, code, memory(&mut op_stack));
         let traced = exports::trace_execution(&mut registers.clone(), &mut answer, 1, code, memory(&mut op_stack), &mut log);
         assert_eq!((run, traced), (expected, expected), "{revision}");
+        let mut row = [9; column::ALL];
+        let registers = &mut registers.clone();
+        assert_eq!(exports::processor_row(registers, &mut row, code, memory(&mut op_stack).view()), expected);
+        assert_eq!(row == [0; column::ALL], expected != 0, "{revision}");
+        let with_rows = exports::trace_rows(registers, &mut answer, 1, code, memory(&mut op_stack), &mut log, &mut row);
+        assert_eq!(with_rows, expected, "{revision}");
         assert_eq!(exports::replay(&mut [0; 3], &[], revision, 0, 0, &mut [], &mut [], &mut []), expected);
     }
 }

@@ -94,19 +94,22 @@ const SMALL_STACK: usize = 224 << 10;
 fn a_small_stack_suffices() {
     for name in ["memory", "sponge", "merkle"] {
         let file = JobFile::read(&read(name, "job")).unwrap();
-        let mut log = vec![0; 1 << 16];
+        let (mut log, mut table) = (vec![0; 1 << 16], vec![0; 1 << 16]);
         let calls = move || {
             let mut stepped = Job::open(&file.opening, Sizes::RUNJOB).unwrap();
             let (mut run, mut traced) = (Box::new(stepped.clone()), Box::new(stepped.clone()));
+            let mut with_rows = traced.clone();
             stepped.step().unwrap();
             let ran = run.run(u64::MAX);
             let trace = traced.trace_execution(u64::MAX, &mut log);
             let helpers = traced.helper_variables();
             let replayed = traced.replay(&log[..trace.bytes], u64::MAX);
-            (ran.ending == trace.ending, helpers.is_ok(), replayed.is_ok())
+            let rows = with_rows.trace_rows(u64::MAX, &mut log, &mut table).0;
+            let row = with_rows.processor_row();
+            (ran.ending == trace.ending, rows == trace, helpers.is_ok(), row.is_ok(), replayed.is_ok())
         };
         let small = std::thread::Builder::new().stack_size(SMALL_STACK);
-        assert_eq!(small.spawn(calls).unwrap().join().unwrap(), (true, true, true), "{name}");
+        assert_eq!(small.spawn(calls).unwrap().join().unwrap(), (true, true, true, true, true), "{name}");
     }
     // more addresses than the table holds
     let write = |i: u64| Record::Ram { clock: i as u32, address: i * 0x9e37_79b9 % 0x7fff_ffff, value: i, write: true };
