@@ -11,7 +11,7 @@ use machine_steps::answer::Ending;
 use machine_steps::answer::Ran;
 use machine_steps::steps::steps;
 
-// Its log is the joined records of as many steps. A log with less than 1,024 bytes is full at once.
+// Its log is the joined records of as many steps. A log with fewer bytes than a step may write is full at once.
 pub fn trace_execution(
     budget: u64,
     state: VMState,

@@ -47,7 +47,7 @@ replayed m c log j = replayOf (m .state .revision) log c (replicate (length (m .
 
 module _ (decide : Machine → Decision) where
   -- "every list of step and run calls on a freshly opened job, refused ones included": the demand asks for step and run; trace_execution
-  -- is more. m is what open left, c the cells lent to replay, whose unused ones are free; "a call log of at most 16 MiB"; "every clock j
+  -- and trace_rows are more. m is what open left, c the cells lent to replay, whose unused ones are free; "a call log of at most 16 MiB"; "every clock j
   -- from 0 to k"
   pub record Case (m : Machine) (c : Cells) (asks : List Ask) (j : ℕ) : Type 0 where
     pub revision : ℕ
