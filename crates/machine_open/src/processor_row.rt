@@ -6,7 +6,7 @@ ghost use Rattle.machine.specs.ProcessorRow.{processorRowOf};
 ghost use Rattle.machine_open.specs.GivenView.{rowedOf};
 use machine::state::VMState;
 use machine_place_a::checks::check_machine;
-use machine_rows::processor_row::row_of;
+use machine_rows::processor_row::write_row;
 
 // Place A's number, 0 where it accepts, and the words of the row.
 pub struct Rowed {
@@ -14,7 +14,7 @@ pub struct Rowed {
     pub words: [u64; 37],
 }
 
-// Zeros where place A refuses. Behind it the machine is sound, which is what row_of relies on.
+// Zeros where place A refuses. Behind it the machine is sound, which is what write_row relies on.
 pub fn processor_row(
     state: VMState,
     opcodes: &[u64],
@@ -47,7 +47,9 @@ pub fn processor_row(
         output,
     );
     if n == 0 {
-        let words = row_of(
+        let mut words = [0u64; 37];
+        write_row(
+            &mut words,
             state.clock as u64,
             state.pointer,
             state.depth,

@@ -6,7 +6,7 @@ use Prim.Native.Nat.{ℕ, zero, suc, _+_, _-_, _/_, _%_, _^_}
 use native.Mathlib.Omega.{arith}
 use borrow.Author.Tests.{lt-ltb, ne-eqb}
 use lib.ListN.{length, getD, take, drop-of-length-le}
-use lib.Seq.{paste, take-all}
+use lib.Seq.{paste, sets, sets-eq, take-all}
 use lib.Dec.{eqb, ltb}
 use Rattle.choices.specs.Choice.{cond}
 use Rattle.machine.specs.Instruction.{sizeOf}
@@ -36,15 +36,21 @@ jump-columns m = go (m .state .jumps)
 pub six-words : (s : List ℕ) → length s ≡ 6 → getD s 0 0 ∷ getD s 1 0 ∷ getD s 2 0 ∷ getD s 3 0 ∷ getD s 4 0 ∷ getD s 5 0 ∷ [] ≡ s
 six-words s h = sym (took s s 6 (omega arith) (take-all 6 s (omega arith)))
 
--- all columns, one by one
-pub columns-are : (t q o n j f d : ℕ) (w : List ℕ) (e : ℕ) (h : List ℕ) → length h ≡ 6 →
-    t ∷ q % 4294967296 ∷ o ∷ n ∷ o % 2 ∷ o / 2 % 2 ∷ o / 4 % 2 ∷ o / 8 % 2 ∷ o / 16 % 2 ∷ o / 32 % 2 ∷ o / 64 % 2 ∷ j ∷ f ∷ d
+-- words that are stored at all places of a list are the list then
+pub stored-whole : (v s : List ℕ) → length s ≡ length v → sets s 0 v ≡ v
+stored-whole v s e = sets-eq v s 0 (omega arith) ∙ rw (drop-of-length-le s {i = 0 + length v} (omega arith)) (append-nil v)
+
+-- all columns, stored one by one
+pub columns-written : (s : List ℕ) (t q o n j f d : ℕ) (w : List ℕ) (e : ℕ) (h : List ℕ) → length s ≡ 37 → length h ≡ 6 →
+    sets s 0 (t ∷ q % 4294967296 ∷ o ∷ n ∷ o % 2 ∷ o / 2 % 2 ∷ o / 4 % 2 ∷ o / 8 % 2 ∷ o / 16 % 2 ∷ o / 32 % 2 ∷ o / 64 % 2 ∷ j ∷ f ∷ d
     ∷ getD w 15 0 ∷ getD w 14 0 ∷ getD w 13 0 ∷ getD w 12 0 ∷ getD w 11 0 ∷ getD w 10 0 ∷ getD w 9 0 ∷ getD w 8 0
     ∷ getD w 7 0 ∷ getD w 6 0 ∷ getD w 5 0 ∷ getD w 4 0 ∷ getD w 3 0 ∷ getD w 2 0 ∷ getD w 1 0 ∷ getD w 0 0
-    ∷ e ∷ getD h 0 0 ∷ getD h 1 0 ∷ getD h 2 0 ∷ getD h 3 0 ∷ getD h 4 0 ∷ getD h 5 0 ∷ []
+    ∷ e ∷ getD h 0 0 ∷ getD h 1 0 ∷ getD h 2 0 ∷ getD h 3 0 ∷ getD h 4 0 ∷ getD h 5 0 ∷ [])
     ≡ (t ∷ q % 2 ^ 32 ∷ o ∷ n ∷ []) ++ instructionBits o ++ (j ∷ f ∷ d ∷ []) ++ stackWords w ++ (e ∷ h)
 unfolding instructionBits stackWords
-columns-are t q o n j f d w e h l = ap (λ (x : List ℕ). (t ∷ q % 2 ^ 32 ∷ o ∷ n ∷ []) ++ instructionBits o ++ (j ∷ f ∷ d ∷ []) ++ stackWords w ++ (e ∷ x)) (six-words h l)
+columns-written s t q o n j f d w e h k l =
+    stored-whole _ s k
+    ∙ ap (λ (x : List ℕ). (t ∷ q % 2 ^ 32 ∷ o ∷ n ∷ []) ++ instructionBits o ++ (j ∷ f ∷ d ∷ []) ++ stackWords w ++ (e ∷ x)) (six-words h l)
 
 -- they are those of a machine that shows them
 module _ (s : VMState) (c : Code) (e : Memory) where
@@ -78,9 +84,6 @@ module _ (s : VMState) (c : Code) (e : Memory) where
       (λ a b j k g l q. row-own a b j k g (l .is (machine s c e) (record { top = sym g; pointer = refl; opcodes = refl; digests = refl; cells = refl }) refl) q)
 
 -- ---- a row that is copied
-
-pub row-whole : (t row t2 : List ℕ) → length t ≡ 37 → length row ≡ 37 → t2 ≡ paste t 0 row 37 → t2 ≡ row
-row-whole t row t2 h k e = e ∙ rw (take-all 37 row (omega arith), drop-of-length-le t {i = 0 + 37} (omega arith), append-nil)
 
 pub row-pasted : (t row : List ℕ) (at : ℕ) → length row ≡ 37 → paste t at row 37 ≡ logged t at row
 unfolding logged

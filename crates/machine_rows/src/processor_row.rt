@@ -40,8 +40,10 @@ fn next_instruction_or_argument(opcodes: &[u64], arguments: &[u64], pointer: u64
     next_opcode(opcodes, pointer)
 }
 
-// The columns side by side; o is CI, n is NIA, w the top sixteen words, bottom first.
-fn columns(
+// The columns side by side, each written at its place: a row that is made as an array first is copied once more. o is CI, n is NIA, w the top
+// sixteen words, bottom first.
+fn write_columns(
+    row: &mut [u64],
     clock: u64,
     pointer: u64,
     o: u64,
@@ -52,52 +54,52 @@ fn columns(
     w: [u64; 16],
     depth: u64,
     h: [u64; 6],
-) -> [u64; 37]
-    ensures { λ r. ⌜ r ≡ (clock ∷ pointer % 2 ^ 32 ∷ o ∷ n ∷ Nil) ++ instructionBits o ++ (jumps ∷ origin ∷ destination ∷ Nil) ++ stackWords w ++ (depth ∷ h) ⌝ }
+)
+    requires { ⌜ length (now row) ≡ 37 ⌝ }
+    ensures { λ _. ⌜ now (row .exit) ≡ (clock ∷ pointer % 2 ^ 32 ∷ o ∷ n ∷ Nil) ++ instructionBits o ++ (jumps ∷ origin ∷ destination ∷ Nil) ++ stackWords w ++ (depth ∷ h) ⌝ }
 {
-    [
-        clock,
-        pointer % 4294967296,
-        o,
-        n,
-        o % 2,
-        o / 2 % 2,
-        o / 4 % 2,
-        o / 8 % 2,
-        o / 16 % 2,
-        o / 32 % 2,
-        o / 64 % 2,
-        jumps,
-        origin,
-        destination,
-        w[15],
-        w[14],
-        w[13],
-        w[12],
-        w[11],
-        w[10],
-        w[9],
-        w[8],
-        w[7],
-        w[6],
-        w[5],
-        w[4],
-        w[3],
-        w[2],
-        w[1],
-        w[0],
-        depth,
-        h[0],
-        h[1],
-        h[2],
-        h[3],
-        h[4],
-        h[5],
-    ]
+    row[0] = clock;
+    row[1] = pointer % 4294967296;
+    row[2] = o;
+    row[3] = n;
+    row[4] = o % 2;
+    row[5] = o / 2 % 2;
+    row[6] = o / 4 % 2;
+    row[7] = o / 8 % 2;
+    row[8] = o / 16 % 2;
+    row[9] = o / 32 % 2;
+    row[10] = o / 64 % 2;
+    row[11] = jumps;
+    row[12] = origin;
+    row[13] = destination;
+    row[14] = w[15];
+    row[15] = w[14];
+    row[16] = w[13];
+    row[17] = w[12];
+    row[18] = w[11];
+    row[19] = w[10];
+    row[20] = w[9];
+    row[21] = w[8];
+    row[22] = w[7];
+    row[23] = w[6];
+    row[24] = w[5];
+    row[25] = w[4];
+    row[26] = w[3];
+    row[27] = w[2];
+    row[28] = w[1];
+    row[29] = w[0];
+    row[30] = depth;
+    row[31] = h[0];
+    row[32] = h[1];
+    row[33] = h[2];
+    row[34] = h[3];
+    row[35] = h[4];
+    row[36] = h[5];
 }
 
 // Of the machine, its registers are handed in that a row shows, and not all: copies of them cost time.
-pub fn row_of(
+pub fn write_row(
+    row: &mut [u64],
     clock: u64,
     pointer: u64,
     depth: usize,
@@ -112,9 +114,9 @@ pub fn row_of(
     destinations: &[u64],
     addresses: &[u64],
     values: &[u64],
-) -> [u64; 37]
-    requires { ⌜ Rowable (shown clock pointer depth jumps taken count) (now opcodes) (now arguments) (now digests) (now «op_stack») (now origins) (now destinations) (now addresses) (now values) ⌝ }
-    ensures { λ r. ⌜ RowIs (shown clock pointer depth jumps taken count) (now (opcodes .entry)) (now (arguments .entry)) (now (digests .entry)) (now («op_stack» .entry)) (now (origins .entry)) (now (destinations .entry)) (now (addresses .entry)) (now (values .entry)) r ⌝ }
+)
+    requires { ⌜ (length (now row) ≡ 37) × Rowable (shown clock pointer depth jumps taken count) (now opcodes) (now arguments) (now digests) (now «op_stack») (now origins) (now destinations) (now addresses) (now values) ⌝ }
+    ensures { λ _. ⌜ RowIs (shown clock pointer depth jumps taken count) (now (opcodes .entry)) (now (arguments .entry)) (now (digests .entry)) (now («op_stack» .entry)) (now (origins .entry)) (now (destinations .entry)) (now (addresses .entry)) (now (values .entry)) (now (row .exit)) ⌝ }
 {
     let w = top(op_stack, depth);
     let h = helpers_of(
@@ -128,7 +130,8 @@ pub fn row_of(
         values,
         count,
     );
-    columns(
+    write_columns(
+        row,
         clock,
         pointer,
         current_instruction(opcodes, pointer),
@@ -139,7 +142,7 @@ pub fn row_of(
         w,
         depth as u64,
         h,
-    )
+    );
 }
 
 // The row of a machine, where rows are asked for.
@@ -165,7 +168,8 @@ pub fn take_row(
     ensures { λ _. ⌜ RowTaken asked (shown clock pointer depth jumps taken count) (now (opcodes .entry)) (now (arguments .entry)) (now (digests .entry)) (now («op_stack» .entry)) (now (origins .entry)) (now (destinations .entry)) (now (addresses .entry)) (now (values .entry)) (now (row .exit)) ⌝ }
 {
     if asked {
-        let words = row_of(
+        write_row(
+            row,
             clock,
             pointer,
             depth,
@@ -181,7 +185,6 @@ pub fn take_row(
             addresses,
             values,
         );
-        copy(row, 0, &words, 37);
     }
 }
 

@@ -11,19 +11,23 @@ use Rattle.machine_open.proofs.processor_row.processor_row.Tie as tie
 check-machine-requires : tie.Need-check-machine-requires
 check-machine-requires c κs = search needs
 
-cast-row-of : tie.Need-cast-row-of
-cast-row-of c = search needs
+slice-aggregate-write-row : tie.Need-slice-aggregate-write-row
+slice-aggregate-write-row c = search needs
 
-row-of-requires : tie.Need-row-of-requires
-row-of-requires c κs =
-    let w = c .before .before .before .before .before .before .before .before .before .before .before .before .before .before .args .state .sponge .words in
-    let sixteen : length w ≡ 16 = length-unmapped ℕ w 16 (c .before .before .before .before .before .before .before .before .before .before .before .before .before .before .good .0 .1 .1 .1 .1 .1 .1 .1 .1 .1 .1 .1 .0 .1 .1 .0 .1 .0 .1) in
-    let h = sound-rowable _ (accepted-sound _ (c .before .before .check-machine .ensures) (c .before .if1 .taken) sixteen (search needs)) in
-    record { slots = h .slots; deep = h .deep; used = h .used; words = h .words; digests = h .digests; usable = h .usable; origins = h .origins; destinations = h .destinations }
+cast-write-row : tie.Need-cast-write-row
+cast-write-row c = search needs
+
+write-row-requires : tie.Need-write-row-requires
+write-row-requires c κs =
+    let k = c .before .before .before .before .before .before .before .before .before .before .before .before .before .before .before in
+    let w = k .args .state .sponge .words in
+    let sixteen : length w ≡ 16 = length-unmapped ℕ w 16 (k .good .0 .1 .1 .1 .1 .1 .1 .1 .1 .1 .1 .1 .0 .1 .1 .0 .1 .0 .1) in
+    let h = sound-rowable _ (accepted-sound _ (c .before .before .before .check-machine .ensures) (c .before .before .if1 .taken) sixteen (search needs)) in
+    (refl, record { slots = h .slots; deep = h .deep; used = h .used; words = h .words; digests = h .digests; usable = h .usable; origins = h .origins; destinations = h .destinations })
 
 returns : tie.Need-returns
 returns c =
-    given-is _ (c .before .before .before .check-machine .ensures) (c .before .before .if1 .taken) 37 (c .row-of .ensures .is _ _ _ _ refl)
+    given-is _ (c .before .before .before .before .before .check-machine .ensures) (c .before .before .before .before .if1 .taken) 37 (c .before .write-row .ensures .is _ _ _ _ refl)
 
 returns-2 : tie.Need-returns-2
 returns-2 c =
@@ -31,4 +35,11 @@ returns-2 c =
 
 pub processor-row-spec : {M : Type 1} → statement M
 processor-row-spec =
-    tie.close (tie.spec check-machine-requires cast-row-of row-of-requires returns returns-2)
+    tie.close
+    (tie.spec
+    check-machine-requires
+    slice-aggregate-write-row
+    cast-write-row
+    write-row-requires
+    returns
+    returns-2)
