@@ -1,6 +1,8 @@
 //! The library's calls beside the original Rust (`oracle bench`, `oracle bench-rows`) on the same jobs, in one run: nanoseconds a step
 //! and ratios (below 1: the library is faster); and beside those of an earlier library, where BEFORE names its folder. The best turn of
-//! each counts. Opening and copying the state are not in the time.
+//! each counts. Opening and copying the state are not in the time. Running with a fee table, which the Rust has not, is measured beside
+//! running without.
+use host::fees::{good_of, Table};
 use host::field::P;
 use host::instructions::named;
 use host::job::{Before, Job, Room, Start};
@@ -25,6 +27,13 @@ const MANY_CELLS: usize = 50_000;
 const PLAIN_ROWS: f64 = 0.4;
 const MEMORY_ROWS: f64 = 0.7;
 
+/// What is aimed at: run with a fee table to run without.
+const WITH_FEES: f64 = 1.05;
+/// The rows of the tables.
+const FEE_ROWS: [usize; 2] = [8, 64];
+/// What is compared is close together: shorter turns, and so many of them in each.
+const FEE_TURNS: usize = 10;
+
 struct Case {
     name: &'static str,
     job: Job,
@@ -40,10 +49,29 @@ impl Case {
 
 fn main() {
     let oracle = Oracle::new("bench");
-    print!("{:<38}{:<18}{:>12}{:>10}{:>10}", "job", "call", "library ns", "Rust ns", "ratio");
+    print!("{:<38}{:<24}{:>12}{:>10}{:>10}", "job", "call", "library ns", "Rust ns", "ratio");
     println!("{}", if before().is_some() { format!("{:>12}{:>10}", "before ns", "ratio") } else { String::new() });
-    for case in cases() {
-        report(&case, &oracle);
+    let cases = cases();
+    for case in &cases {
+        report(case, &oracle);
+    }
+    checks(&cases[0]);
+}
+
+/// What a call spends on the table itself: runs with budget 0.
+fn checks(case: &Case) {
+    let start = case.job.started(case.room, &Before::default(), 1, &mut Random::new(1));
+    let tables = FEE_ROWS.map(|rows| good_of(&mut Random::new(1), rows));
+    let mut best = [f64::MAX; 1 + FEE_ROWS.len()];
+    for _ in 0..TURNS * FEE_TURNS {
+        best.iter_mut().zip(by_fees(&start, &tables, 0)).for_each(|(best, turn)| *best = best.min(turn));
+    }
+    for (rows, ours) in FEE_ROWS.into_iter().zip(&best[1..]) {
+        println!(
+            "a fee table of {rows} rows takes {:.0} ns a call: run with budget 0 takes {ours:.0}, and {:.0} without",
+            ours - best[0],
+            best[0]
+        );
     }
 }
 
@@ -64,9 +92,11 @@ fn report(case: &Case, oracle: &Oracle) {
     let mut states = first_states(&start, if has_many { LARGE_STATES } else { STATES_FOR_HELPERS });
     // one table for all turns: its memory is new in the first alone
     let mut table = vec![0; ((steps as usize + 1) * column::ALL).min(LONGEST)];
+    let tables = FEE_ROWS.map(|rows| good_of(&mut Random::new(1), rows));
     let mut best = [f64::MAX; 6];
     let mut earlier = [f64::MAX; 6];
     let mut theirs = [f64::MAX; 4];
+    let mut priced = [f64::MAX; 1 + FEE_ROWS.len()];
     for _ in 0..if has_many { LONG_TURNS } else { TURNS } {
         for (best, by) in [(&mut best, Some(LIBRARY)), (&mut earlier, before())] {
             let Some(by) = by else { continue };
@@ -75,6 +105,9 @@ fn report(case: &Case, oracle: &Oracle) {
         }
         best[4] = best[4].min(by_record(&start));
         best[5] = best[5].min(by_rows(&start, steps, &mut table));
+        for _ in 0..if has_many { 1 } else { FEE_TURNS } {
+            priced.iter_mut().zip(by_fees(&start, &tables, u64::MAX)).for_each(|(best, turn)| *best = best.min(turn));
+        }
         for (name, time) in oracle.bench(&case.job, steps) {
             let place = ["run", "step", "helpers", "rows"].iter().position(|known| *known == name).unwrap();
             theirs[place] = theirs[place].min(time);
@@ -92,12 +125,21 @@ fn report(case: &Case, oracle: &Oracle) {
     for (call, place, theirs, goal) in rows {
         let (ours, earlier) = (best[place], earlier[place]);
         let ratio = ours / theirs;
-        print!("{:<38}{call:<18}{ours:>12.1}{theirs:>10.1}{ratio:>10.2}", case.name);
+        print!("{:<38}{call:<24}{ours:>12.1}{theirs:>10.1}{ratio:>10.2}", case.name);
         // not measured: no earlier library, or over its register record, which is another, or with rows, which it may not have
         print!("{}", if earlier < f64::MAX { format!("{earlier:>12.1}{:>10.2}", ours / earlier) } else { String::new() });
-        let missed = |goal| if ratio > goal { ", missed" } else { "" };
-        println!("{}", goal.map_or(String::new(), |goal| format!("   goal {goal}{}", missed(goal))));
+        println!("{}", goal.map_or(String::new(), |goal| aimed(ratio, goal)));
     }
+    let [run, with_fees @ ..] = priced;
+    for (rows, ours) in FEE_ROWS.into_iter().zip(with_fees) {
+        let call = format!("run, fees of {rows} rows");
+        let ratio = ours / run;
+        println!("{:<38}{call:<24}{ours:>12.1}{:>10}{ratio:>10.3} to run, {run:.1}{}", case.name, "", aimed(ratio, WITH_FEES));
+    }
+}
+
+fn aimed(ratio: f64, goal: f64) -> String {
+    format!("   goal {goal}{}", if ratio > goal { ", missed" } else { "" })
 }
 
 /// Nanoseconds a step of a job taken again and again: `once` takes a turn, and gives its time and steps.
@@ -118,6 +160,27 @@ fn by_run(start: &Machine, by: &Calls) -> f64 {
         let ran = machine.run(by, u64::MAX);
         (began.elapsed(), ran[answer::STEPS])
     })
+}
+
+/// Running without a fee table and with each of these, one run of the job after the other, so that a slow moment meets all:
+/// nanoseconds a step, or a call where the budget is 0.
+fn by_fees(start: &Machine, tables: &[Table; FEE_ROWS.len()], budget: u64) -> [f64; 1 + FEE_ROWS.len()] {
+    let fees = [None, Some(tables[0].slices()), Some(tables[1].slices())];
+    let (mut times, mut steps) = ([Duration::ZERO; 1 + FEE_ROWS.len()], 0);
+    while times[0] < TURN / FEE_TURNS as u32 {
+        let mut taken = [0; 1 + FEE_ROWS.len()];
+        for ((time, taken), fees) in times.iter_mut().zip(&mut taken).zip(fees) {
+            let mut machine = start.clone();
+            let began = Instant::now();
+            let (ran, fee) = machine.run_priced(&LIBRARY, budget, fees);
+            *time += began.elapsed();
+            assert_eq!((ran[answer::NUMBER], fee.is_some()), (0, fees.is_some()));
+            *taken = ran[answer::STEPS].max(1);
+        }
+        assert_eq!(taken, [taken[0]; 1 + FEE_ROWS.len()]);
+        steps += taken[0];
+    }
+    times.map(|time| time.as_nanos() as f64 / steps as f64)
 }
 
 fn by_trace(start: &Machine, by: &Calls, steps: u64) -> f64 {

@@ -1,8 +1,9 @@
 //! One job three ways: what the oracle reports, the model and the library.
 use crate::cells::ascend;
 use crate::counts::Counts;
+use crate::fees::{self, Table};
 use crate::job::{Before, Job, Room};
-use crate::lent::{answer, column, ending, step_bytes, Answer, Calls, Machine, LIBRARY};
+use crate::lent::{answer, column, ending, register, step_bytes, Answer, Calls, Machine, Priced, LIBRARY};
 use crate::model::{put_clock, MODEL};
 use crate::oracle::{End, Refused, Report, State};
 use crate::random::Random;
@@ -131,35 +132,52 @@ fn clocked(mut report: Report) -> Report {
     report
 }
 
-/// Everything that is compared of a job in a room, in each revision of the log. The report has the limits in it. How tracing with
-/// rows ended is counted.
+/// Everything that is compared of a job in a room, in each revision of the log, and in one of them once more with a fee table. The
+/// report has the limits in it. How tracing with rows ended is counted, and what tables were handed in.
 pub fn check(job: &Job, report: &Report, room: Room, random: &mut Random, counts: &mut Counts) -> Checked<()> {
-    check_in(1, job, report, room, random, counts)?;
-    check_in(2, job, &clocked(report.clone()), room, random, counts)
+    let clocked = clocked(report.clone());
+    check_in(1, None, job, report, room, random, counts)?;
+    check_in(2, None, job, &clocked, room, random, counts)?;
+    let (revision, report) = if random.once_in(2) { (1, report) } else { (2, &clocked) };
+    let table = fees::good(random);
+    let checked = check_in(revision, Some(&table), job, report, room, random, counts);
+    checked.map_err(|difference| Difference { what: format!("{}; by {table:?}", difference.what), ..difference })
 }
 
-#[rustfmt::skip]
-fn check_in(revision: u64, job: &Job, report: &Report, room: Room, random: &mut Random, counts: &mut Counts) -> Checked<()> {
+fn check_in(
+    revision: u64,
+    fees: Option<&Table>,
+    job: &Job,
+    report: &Report,
+    room: Room,
+    random: &mut Random,
+    counts: &mut Counts,
+) -> Checked<()> {
     let before = if job.start.is_some() { Before::random(random) } else { Before::default() };
-    let check = Check { job, report, before, revision };
+    let check = Check { job, report, before, revision, fees };
     let Some(opened) = &report.opened else {
         return check.refused_opening(room, random);
     };
     same("VMState::run", ("expected", &true), ("oracle", &report.run_is_same.unwrap_or(true)))?;
-    let start = match &job.start {
-        Some(_) => Both::new(job.started(room, &check.before, revision, random)),
-        None => {
-            let mut both = Both::new(job.unopened(room, random));
-            let answer = both.call("open", |machine, by| machine.open(by, revision, &job.digest, job.ram.len() as u64))?;
+    let unopened = job.start.is_none().then(|| Both::new(job.unopened(room, random)));
+    let start = match &unopened {
+        None => Both::new(job.started(room, &check.before, revision, random)),
+        Some(unopened) => {
+            let mut both = unopened.clone();
+            let answer = check.open("open", &mut both, fees)?;
             same("open", ("expected", &[0; answer::ALL]), ("library", &answer))?;
             both
         }
     };
     check.state("the start", opened, &start)?;
     check.steps(start.clone(), random)?;
-    check.runs(&start, random)?;
+    check.runs(&start, random, counts)?;
     check.traces(&start, random)?;
-    check.rows(&start, random, counts)
+    check.rows(&start, random, counts)?;
+    match fees {
+        None => Ok(()),
+        Some(_) => check.tables(unopened.as_ref(), &start, random, counts),
+    }
 }
 
 struct Check<'a> {
@@ -167,6 +185,8 @@ struct Check<'a> {
     report: &'a Report,
     before: Before,
     revision: u64,
+    /// A good one.
+    fees: Option<&'a Table>,
 }
 
 impl Check<'_> {
@@ -179,28 +199,45 @@ impl Check<'_> {
         same(what, ("oracle", state), ("library", &found))
     }
 
+    fn open(&self, what: &str, both: &mut Both, fees: Option<&Table>) -> Checked<Answer> {
+        let (digest, cells) = (&self.job.digest, self.job.ram.len() as u64);
+        both.call(what, |machine, by| machine.open_priced(by, self.revision, digest, cells, fees.map(Table::slices)))
+    }
+
+    /// Of the first so many steps: the sum over the original's current instructions. None without a table.
+    fn fee(&self, steps: u64) -> Option<u64> {
+        let opcodes = self.report.rows[..steps as usize].iter().map(|row| row[column::CI]);
+        self.fees.map(|table| opcodes.map(|opcode| table.priced(opcode).1).sum())
+    }
+
     fn steps(&self, mut both: Both, random: &mut Random) -> Checked<()> {
         let (spare, most) = (random.index(3), step_bytes(self.revision));
+        let fees = self.fees.map(Table::slices);
         for (i, step) in self.report.tried.iter().enumerate() {
             let what = format!("step {i}");
-            let helpers = both.call(&format!("{what}, helper variables"), |machine, by| machine.helper_variables(by))?;
-            same(&format!("{what}, helper variables"), ("oracle", &(0, step.helpers)), ("library", &helpers))?;
-            // of a step that is refused the model alone has a row
-            let row = both.call(&format!("{what}, row"), |machine, by| machine.processor_row(by))?;
-            if step.result.is_ok() {
-                same(&format!("{what}, row"), ("oracle", &(0, self.report.rows[i])), ("library", &row))?;
+            // they take no fee table
+            if fees.is_none() {
+                let helpers = both.call(&format!("{what}, helper variables"), |machine, by| machine.helper_variables(by))?;
+                same(&format!("{what}, helper variables"), ("oracle", &(0, step.helpers)), ("library", &helpers))?;
+                // of a step that is refused the model alone has a row
+                let row = both.call(&format!("{what}, row"), |machine, by| machine.processor_row(by))?;
+                if step.result.is_ok() {
+                    same(&format!("{what}, row"), ("oracle", &(0, self.report.rows[i])), ("library", &row))?;
+                }
             }
 
             let filling = random.next() as u8;
             let (answer, buffer) = both.call(&what, |machine, by| {
                 let mut buffer = vec![filling; most + spare];
-                (machine.step(by, &mut buffer), buffer)
+                (machine.step_priced(by, &mut buffer, fees), buffer)
             })?;
-            let mut bytes = match &step.result {
-                Ok(records) => bytes_of(records),
-                Err(_) => vec![],
+            // the row that has the original's current instruction; 0 where the step is refused
+            let (mut bytes, row) = match &step.result {
+                Ok(records) => (bytes_of(records), self.fees.map(|table| table.priced(self.report.rows[i][column::CI]).0 as u64)),
+                Err(_) => (vec![], fees.map(|_| 0)),
             };
-            same(&format!("{what}, answer"), ("oracle", &answer_of(&step.result, 1, bytes.len())), ("library", &answer))?;
+            let expected = (answer_of(&step.result, 1, bytes.len()), row);
+            same(&format!("{what}, answer"), ("oracle", &expected), ("library", &answer))?;
             bytes.resize(buffer.len(), filling);
             same(&format!("{what}, bytes"), ("oracle", &bytes), ("library", &buffer))?;
             self.state(&what, &step.state, &both)?;
@@ -209,14 +246,14 @@ impl Check<'_> {
         for _ in 0..3 {
             both.call("a step behind the end", |machine, by| {
                 let mut buffer = vec![0; most];
-                (machine.step(by, &mut buffer), buffer)
+                (machine.step_priced(by, &mut buffer, fees), buffer)
             })?;
         }
         Ok(())
     }
 
     /// The answer, the state and the bytes of a run with this budget and, with a log or a table, this length of it.
-    fn run_to(&self, budget: u64, log: Option<usize>, table: Option<usize>) -> (Answer, &State, Vec<u8>) {
+    fn run_to(&self, budget: u64, log: Option<usize>, table: Option<usize>) -> (Priced, &State, Vec<u8>) {
         let mut state = self.report.opened.as_ref().unwrap();
         let (mut taken, mut bytes) = (0, vec![]);
         let length = |bytes: &Vec<u8>| if log.is_some() { bytes.len() as u64 } else { 0 };
@@ -249,12 +286,13 @@ impl Check<'_> {
                 }
             }
         };
-        (answer, state, bytes)
+        ((answer, self.fee(taken as u64)), state, bytes)
     }
 
     /// Budgets: none, all, one less, one between, and no bound where the job ends by itself.
-    fn runs(&self, start: &Both, random: &mut Random) -> Checked<()> {
+    fn runs(&self, start: &Both, random: &mut Random, counts: &mut Counts) -> Checked<()> {
         let steps = self.report.steps;
+        let fees = self.fees.map(Table::slices);
         let mut budgets = vec![0, steps, steps.saturating_sub(1), random.between(0, steps)];
         if self.report.end != End::Spent {
             budgets.extend([steps + 1, u64::MAX]);
@@ -263,10 +301,13 @@ impl Check<'_> {
         for budget in budgets {
             let what = format!("run, budget {budget}");
             let mut both = start.clone();
-            let answer = both.call(&what, |machine, by| machine.run(by, budget))?;
+            let answer = both.call(&what, |machine, by| machine.run_priced(by, budget, fees))?;
             let (expected, state, _) = self.run_to(budget, None, None);
             same(&what, ("oracle", &expected), ("library", &answer))?;
             self.state(&what, state, &both)?;
+            if let (answer, Some(fee)) = answer {
+                counts.note_fee(answer[answer::ENDING], answer[answer::STEPS], fee);
+            }
         }
         Ok(())
     }
@@ -275,14 +316,14 @@ impl Check<'_> {
     fn traces(&self, start: &Both, random: &mut Random) -> Checked<()> {
         let budget = if self.report.end == End::Spent { self.report.steps } else { random.pick(&[u64::MAX, self.report.steps]) };
         let all = self.run_to(budget, Some(usize::MAX), None).2.len();
-        let most = step_bytes(self.revision);
+        let (most, fees) = (step_bytes(self.revision), self.fees.map(Table::slices));
         for room in [all + most, most - 1, random.index(all + 2 * most)] {
             let what = format!("trace_execution, budget {budget}, log of {room}");
             let filling = random.next() as u8;
             let mut both = start.clone();
             let (answer, log) = both.call(&what, |machine, by| {
                 let mut log = vec![filling; room];
-                (machine.trace_execution(by, budget, &mut log), log)
+                (machine.trace_priced(by, budget, &mut log, fees), log)
             })?;
             let (expected, state, mut bytes) = self.run_to(budget, Some(room), None);
             same(&what, ("oracle", &expected), ("library", &answer))?;
@@ -297,7 +338,7 @@ impl Check<'_> {
     fn rows(&self, start: &Both, random: &mut Random, counts: &mut Counts) -> Checked<()> {
         let steps = self.report.steps;
         let longest = if self.report.end == End::Spent { steps } else { u64::MAX };
-        let most = step_bytes(self.revision);
+        let (most, fees) = (step_bytes(self.revision), self.fees.map(Table::slices));
         let bytes = self.run_to(longest, Some(usize::MAX), None).2.len() + most;
         let words = (steps as usize + 1) * column::ALL;
         let (short_log, short_table) = (random.index(most), random.index(column::ALL));
@@ -313,10 +354,11 @@ impl Check<'_> {
             let mut both = start.clone();
             let (answer, log, table) = both.call(&what, |machine, by| {
                 let (mut log, mut table) = (vec![filling as u8; log_room], vec![filling; table_room]);
-                (machine.trace_rows(by, budget, &mut log, &mut table), log, table)
+                (machine.rows_priced(by, budget, &mut log, &mut table, fees), log, table)
             })?;
             let (expected, state, mut bytes) = self.run_to(budget, Some(log_room), Some(table_room));
             same(&what, ("oracle", &expected), ("library", &answer))?;
+            let answer = answer.0;
             let mut rows = self.report.rows[..answer[answer::STEPS] as usize].concat();
             let is_table_full = table_room - rows.len() < column::ALL;
             bytes.resize(log_room, filling as u8);
@@ -337,31 +379,70 @@ impl Check<'_> {
         Ok(())
     }
 
-    /// The number by which the job does not open, at every call that is handed it.
+    /// Tables with anything wrong in them, or nothing, at every call that takes one. No Rust has them: the model stands alone.
+    fn tables(&self, unopened: Option<&Both>, start: &Both, random: &mut Random, counts: &mut Counts) -> Checked<()> {
+        let (most, is_halted) = (step_bytes(self.revision), start.library.registers[register::HALTED] == 1);
+        for _ in 0..2 {
+            let table = fees::any(random);
+            let what = |call: &str| format!("{call}, handed {table:?}");
+            let fees = Some(table.slices());
+            if let Some(unopened) = unopened {
+                self.open(&what("open"), &mut unopened.clone(), Some(&table))?;
+            }
+            let (budget, log_room, words) = (random.below(4), most + random.index(100), random.index(3 * column::ALL));
+            let (step, _) = start.clone().call(&what("step"), |machine, by| {
+                let mut buffer = vec![7; most];
+                (machine.step_priced(by, &mut buffer, fees), buffer)
+            })?;
+            start.clone().call(&what("run"), |machine, by| machine.run_priced(by, budget, fees))?;
+            start.clone().call(&what("trace_execution"), |machine, by| {
+                let mut log = vec![7; log_room];
+                (machine.trace_priced(by, budget, &mut log, fees), log)
+            })?;
+            start.clone().call(&what("trace_rows"), |machine, by| {
+                let (mut log, mut rows) = (vec![7; log_room], vec![7; words]);
+                (machine.rows_priced(by, budget, &mut log, &mut rows, fees), log, rows)
+            })?;
+            counts.note_table(&table, is_halted, step.0[answer::NUMBER]);
+        }
+        Ok(())
+    }
+
+    /// The number by which the job does not open, at every call that is handed it. It comes before what is wrong with a fee table,
+    /// unless that is its shape.
     fn refused_opening(&self, room: Room, random: &mut Random) -> Checked<()> {
         let End::Refused(number) = self.report.end else {
             panic!("the oracle refused no opening");
         };
+        let table = self.fees.map(|_| fees::any(random));
+        let has_shape = table.as_ref().is_none_or(|table| {
+            let lengths = [table.lowest.len(), table.highest.len(), table.fees.len()];
+            lengths == [lengths[0]; 3] && table.fees.iter().all(|fee| *fee < 1 << 32)
+        });
+        let number = if has_shape { number } else { 1 };
         let expected = [ending::REFUSED, number, 0, 0, 0, 0, 0];
         if self.job.start.is_none() {
-            let mut both = Both::new(self.job.unopened(room, random));
-            let answer =
-                both.call("open", |machine, by| machine.open(by, self.revision, &self.job.digest, self.job.ram.len() as u64))?;
+            let answer = self.open("open", &mut Both::new(self.job.unopened(room, random)), table.as_ref())?;
             return same("open", ("oracle", &expected), ("library", &answer));
         }
+        let fees = table.as_ref().map(Table::slices);
+        let priced = (expected, fees.map(|_| 0));
+        let most = step_bytes(self.revision);
         let mut both = Both::new(self.job.started(room, &self.before, self.revision, random));
-        let answer = both.call("step", |machine, by| machine.step(by, &mut vec![0; step_bytes(self.revision)]))?;
-        same("step", ("oracle", &expected), ("library", &answer))?;
-        let answer = both.call("run", |machine, by| machine.run(by, 1))?;
-        same("run", ("oracle", &expected), ("library", &answer))?;
-        let answer =
-            both.call("trace_execution", |machine, by| machine.trace_execution(by, 1, &mut vec![0; step_bytes(self.revision)]))?;
-        same("trace_execution", ("oracle", &expected), ("library", &answer))?;
+        let answer = both.call("step", |machine, by| machine.step_priced(by, &mut vec![0; most], fees))?;
+        same("step", ("oracle", &priced), ("library", &answer))?;
+        let answer = both.call("run", |machine, by| machine.run_priced(by, 1, fees))?;
+        same("run", ("oracle", &priced), ("library", &answer))?;
+        let answer = both.call("trace_execution", |machine, by| machine.trace_priced(by, 1, &mut vec![0; most], fees))?;
+        same("trace_execution", ("oracle", &priced), ("library", &answer))?;
         let (answer, table) = both.call("trace_rows", |machine, by| {
             let mut table = [u64::MAX; column::ALL];
-            (machine.trace_rows(by, 1, &mut vec![0; step_bytes(self.revision)], &mut table), table)
+            (machine.rows_priced(by, 1, &mut vec![0; most], &mut table, fees), table)
         })?;
-        same("trace_rows", ("oracle", &(expected, [u64::MAX; column::ALL])), ("library", &(answer, table)))?;
+        same("trace_rows", ("oracle", &(priced, [u64::MAX; column::ALL])), ("library", &(answer, table)))?;
+        if fees.is_some() {
+            return Ok(());
+        }
         let helpers = both.call("helper variables", |machine, by| machine.helper_variables(by))?;
         same("helper variables", ("oracle", &(number, [0; 6])), ("library", &helpers))?;
         let row = both.call("row", |machine, by| machine.processor_row(by))?;

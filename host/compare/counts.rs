@@ -1,15 +1,16 @@
-//! What a comparison met: steps and rows by instruction, refusals by number, where a step's words of RAM were, and how tracing with
-//! rows ended.
+//! What a comparison met: steps and rows by instruction, refusals by number, where a step's words of RAM were, how tracing with rows
+//! ended, and what fee tables there were.
+use crate::fees::{Table, MOST_ROWS};
 use crate::field::P;
 use crate::instructions::{decode, ALL};
 use crate::job::{Job, Room};
-use crate::lent::column;
+use crate::lent::{column, ending};
 use crate::oracle::{End, Report, State};
 use kixombu::Record;
 use std::collections::BTreeMap;
 
 /// The refusals that a comparison has to meet.
-const NUMBERS: [u64; 23] = [2, 3, 4, 5, 10, 11, 12, 13, 14, 15, 16, 17, 18, 19, 20, 21, 22, 23, 30, 31, 32, 33, 34];
+const NUMBERS: [u64; 26] = [2, 3, 4, 5, 10, 11, 12, 13, 14, 15, 16, 17, 18, 19, 20, 21, 22, 23, 30, 31, 32, 33, 34, 64, 65, 66];
 
 /// What steps do with RAM that a comparison has to meet.
 const OF_RAM: [&str; 13] = [
@@ -41,6 +42,25 @@ const OF_ROWS: [&str; 9] = [
     "a row from 2^32 on",
 ];
 
+/// How runs with a fee table end, and tables, that a comparison has to meet.
+const OF_FEES: [&str; 15] = [
+    "fees, halted",
+    "fees, spent",
+    "fees, refused at once",
+    "fees, refused later",
+    "a fee above 2^32",
+    "a table that is good",
+    "a table of no rows",
+    "a table of 64 rows",
+    "a table of 65 rows",
+    "a table with a turned row",
+    "a bound of 2^64 - 1",
+    "a row's fee of 2^32 - 1",
+    "a row's fee of 2^32",
+    "slices of unequal length",
+    "a halted job, a bad table",
+];
+
 #[derive(Default)]
 pub struct Counts {
     pub jobs: u64,
@@ -54,7 +74,7 @@ pub struct Counts {
     /// Rows compared with the oracle's, by their current instruction.
     rows: BTreeMap<&'static str, u64>,
     numbers: BTreeMap<u64, u64>,
-    /// Of RAM and of rows.
+    /// Of RAM, of rows and of fees.
     noted: BTreeMap<&'static str, u64>,
 }
 
@@ -120,6 +140,41 @@ impl Counts {
         *self.noted.entry(name).or_default() += 1;
     }
 
+    /// A run with a fee table.
+    pub fn note_fee(&mut self, ending: u64, steps: u64, fee: u64) {
+        self.note(match (ending, steps) {
+            (ending::DONE, _) => "fees, halted",
+            (ending::SPENT, _) => "fees, spent",
+            (_, 0) => "fees, refused at once",
+            _ => "fees, refused later",
+        });
+        if fee >> 32 > 0 {
+            self.note("a fee above 2^32");
+        }
+    }
+
+    /// A table of any kind, and the number that a step with it gave, from a machine that place A accepts.
+    pub fn note_table(&mut self, table: &Table, is_halted: bool, number: u64) {
+        let Table { lowest, highest, fees } = table;
+        let is_refused = matches!(number, 1 | 64..=66);
+        if number >= 64 {
+            *self.numbers.entry(number).or_default() += 1;
+        }
+        let notes = [
+            ("a table that is good", !is_refused),
+            ("a table of no rows", [lowest, highest, fees].iter().all(|column| column.is_empty())),
+            ("a table of 64 rows", !is_refused && fees.len() == MOST_ROWS),
+            ("a table of 65 rows", number == 64 && fees.len() == MOST_ROWS + 1),
+            ("a table with a turned row", number == 64 && fees.len() <= MOST_ROWS),
+            ("a bound of 2^64 - 1", !is_refused && highest.contains(&u64::MAX)),
+            ("a row's fee of 2^32 - 1", !is_refused && fees.contains(&((1 << 32) - 1))),
+            ("a row's fee of 2^32", number == 1 && fees.contains(&(1 << 32))),
+            ("slices of unequal length", number == 1 && (lowest.len() != highest.len() || highest.len() != fees.len())),
+            ("a halted job, a bad table", is_halted && number >= 64),
+        ];
+        notes.iter().filter(|note| note.1).for_each(|note| self.note(note.0));
+    }
+
     /// Where the words of a step stand among the cells before it.
     fn count_ram(&mut self, before: &State, records: &[Record], room: usize) {
         let addresses = |wanted: bool| -> Vec<u64> {
@@ -180,7 +235,7 @@ impl Counts {
         }
         println!("{:<20}{:>12}", "number", "times");
         self.numbers.iter().for_each(|(number, count)| println!("{number:<20}{count:>12}"));
-        println!("{:<26}{:>8}", "RAM and rows", "times");
+        println!("{:<26}{:>8}", "RAM, rows and fees", "times");
         self.noted.iter().for_each(|(name, count)| println!("{name:<26}{count:>8}"));
         println!(
             "{} jobs, {} steps, {} single steps, {} rows; {} steps once more with less lent",
@@ -192,13 +247,14 @@ impl Counts {
         );
     }
 
-    /// Instructions never taken or never met in a row, numbers never given, and what was never done with RAM or with rows.
+    /// Instructions never taken or never met in a row, numbers never given, and what was never done with RAM, with rows or with fees.
     pub fn missing(&self) -> Vec<String> {
         let names = || ALL.iter().map(|instruction| instruction.name);
         let instructions = names().filter(|name| !self.taken.contains_key(name)).map(str::to_string);
         let rows = names().filter(|name| !self.rows.contains_key(name)).map(|name| format!("(a row of {name})"));
         let numbers = NUMBERS.iter().filter(|number| !self.numbers.contains_key(number)).map(u64::to_string);
-        let noted = OF_RAM.iter().chain(&OF_ROWS).filter(|name| !self.noted.contains_key(*name)).map(|name| format!("({name})"));
+        let all = OF_RAM.iter().chain(&OF_ROWS).chain(&OF_FEES);
+        let noted = all.filter(|name| !self.noted.contains_key(*name)).map(|name| format!("({name})"));
         instructions.chain(rows).chain(numbers).chain(noted).collect()
     }
 }

@@ -1,12 +1,15 @@
 //! What a call is handed, in the shape of the library's C interface.
 use kixombu::exports;
-pub use kixombu::exports::{answer, column, ending, register, step_bytes, Code, Memory, MemoryView, LONGEST, STEP_BYTES};
+pub use kixombu::exports::{answer, column, ending, register, step_bytes, Code, Fees, Memory, MemoryView, LONGEST, STEP_BYTES};
 
 pub type Answer = [u64; answer::ALL];
+/// The words of an answer, and behind them the row or the fee, where a fee table is handed in.
+pub type Priced = (Answer, Option<u64>);
 /// The words of a row of the processor table.
 pub type Row = [u64; column::ALL];
 
 /// The calls of one side: the library's or the model's (`model::MODEL`). Each gives the number, 0 where not refused.
+#[allow(clippy::type_complexity)]
 #[derive(Clone, Copy)]
 pub struct Calls {
     pub open: fn(Words, Words, u64, &[u64], u64, Code, Memory) -> u64,
@@ -14,6 +17,11 @@ pub struct Calls {
     pub run: fn(Words, Words, u64, Code, Memory) -> u64,
     pub trace_execution: fn(Words, Words, u64, Code, Memory, &mut [u8]) -> u64,
     pub trace_rows: fn(Words, Words, u64, Code, Memory, &mut [u8], Words) -> u64,
+    pub open_with_fees: fn(Words, Words, u64, &[u64], u64, Code, Memory, Fees) -> u64,
+    pub step_with_fees: fn(Words, Words, Code, Memory, &mut [u8], Fees) -> u64,
+    pub run_with_fees: fn(Words, Words, u64, Code, Memory, Fees) -> u64,
+    pub trace_execution_with_fees: fn(Words, Words, u64, Code, Memory, &mut [u8], Fees) -> u64,
+    pub trace_rows_with_fees: fn(Words, Words, u64, Code, Memory, &mut [u8], Words, Fees) -> u64,
     pub helper_variables: fn(&[u64], Words, Code, MemoryView) -> u64,
     pub processor_row: fn(&[u64], Words, Code, MemoryView) -> u64,
 }
@@ -28,6 +36,11 @@ pub const LIBRARY: Calls = Calls {
     run: exports::run,
     trace_execution: exports::trace_execution,
     trace_rows: exports::trace_rows,
+    open_with_fees: exports::open_with_fees,
+    step_with_fees: exports::step_with_fees,
+    run_with_fees: exports::run_with_fees,
+    trace_execution_with_fees: exports::trace_execution_with_fees,
+    trace_rows_with_fees: exports::trace_rows_with_fees,
     helper_variables: exports::helper_variables,
     processor_row: exports::processor_row,
 };
@@ -152,6 +165,57 @@ impl Machine {
         let (registers, code, memory) = self.parts();
         let number = (by.trace_rows)(registers, &mut answer, budget, code, memory, log, table);
         numbered(answer, number)
+    }
+
+    /// Open, with a fee table or without; it gives no fee.
+    pub fn open_priced(&mut self, by: &Calls, revision: u64, digest: &[u64], cells: u64, fees: Option<Fees>) -> Answer {
+        let Some(fees) = fees else {
+            return self.open(by, revision, digest, cells);
+        };
+        let mut answer = [u64::MAX; answer::ALL];
+        let (registers, code, memory) = self.parts();
+        let number = (by.open_with_fees)(registers, &mut answer, revision, digest, cells, code, memory, fees);
+        numbered(answer, number)
+    }
+
+    /// As the four above, with a fee table or without.
+    pub fn step_priced(&mut self, by: &Calls, calls: &mut [u8], fees: Option<Fees>) -> Priced {
+        let Some(fees) = fees else {
+            return (self.step(by, calls), None);
+        };
+        self.priced(|registers, answer, code, memory| (by.step_with_fees)(registers, answer, code, memory, calls, fees))
+    }
+
+    pub fn run_priced(&mut self, by: &Calls, budget: u64, fees: Option<Fees>) -> Priced {
+        let Some(fees) = fees else {
+            return (self.run(by, budget), None);
+        };
+        self.priced(|registers, answer, code, memory| (by.run_with_fees)(registers, answer, budget, code, memory, fees))
+    }
+
+    pub fn trace_priced(&mut self, by: &Calls, budget: u64, log: &mut [u8], fees: Option<Fees>) -> Priced {
+        let Some(fees) = fees else {
+            return (self.trace_execution(by, budget, log), None);
+        };
+        self.priced(|registers, answer, code, memory| {
+            (by.trace_execution_with_fees)(registers, answer, budget, code, memory, log, fees)
+        })
+    }
+
+    pub fn rows_priced(&mut self, by: &Calls, budget: u64, log: &mut [u8], table: &mut [u64], fees: Option<Fees>) -> Priced {
+        let Some(fees) = fees else {
+            return (self.trace_rows(by, budget, log, table), None);
+        };
+        self.priced(|registers, answer, code, memory| {
+            (by.trace_rows_with_fees)(registers, answer, budget, code, memory, log, table, fees)
+        })
+    }
+
+    fn priced(&mut self, call: impl FnOnce(Words, Words, Code, Memory) -> u64) -> Priced {
+        let mut answer = [u64::MAX; answer::WITH_FEES];
+        let (registers, code, memory) = self.parts();
+        let number = call(registers, &mut answer, code, memory);
+        (numbered(core::array::from_fn(|place| answer[place]), number), Some(answer[answer::FEE]))
     }
 
     /// The number and the six words.

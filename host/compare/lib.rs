@@ -1,10 +1,11 @@
-//! What the comparison, the fuzz runs and the benchmarks share: the library's calls, a model of document 01, random jobs, and
+//! What the comparison, the fuzz runs and the benchmarks share: the library's calls, a model of documents 01 and 02, random jobs, and
 //! the oracle's answers.
 pub mod cells;
 pub mod check;
 pub mod counts;
 pub mod damaged;
 pub mod entries;
+pub mod fees;
 pub mod field;
 pub mod guard;
 pub mod job;

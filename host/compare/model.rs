@@ -1,6 +1,7 @@
 //! The calls of documents 01 and 02 on plain Rust containers: an implementation of its own, written from the documents and the
 //! facts of the instruction set, to compare with where no Rust answers (places A and D) and on every input of the fuzz run.
 mod execute;
+mod fees;
 mod helpers;
 mod place_a;
 pub mod replay;
@@ -9,7 +10,7 @@ mod row;
 mod tests;
 
 use crate::instructions::decode;
-use crate::lent::{answer, column, ending, register, step_bytes, Calls, Code, Memory, MemoryView};
+use crate::lent::{column, ending, register, step_bytes, Calls, Code, Fees, Memory, MemoryView};
 use crate::tip5::State;
 use kixombu::{bytes_of, Record};
 use place_a::{place_a, Handed};
@@ -195,21 +196,49 @@ fn pairs<'a>(left: &'a [u64], right: &'a [u64], n: usize) -> impl Iterator<Item 
 
 /// The calls as the library has them.
 pub const MODEL: Calls = Calls {
-    open,
-    step,
-    run: |registers, answer, budget, code, memory| run(registers, answer, budget, code, memory, None, None),
-    trace_execution: |registers, answer, budget, code, memory, log| run(registers, answer, budget, code, memory, Some(log), None),
+    open: |registers, answer, revision, digest, cells, code, memory| {
+        open(registers, answer, revision, digest, cells, code, memory, None)
+    },
+    step: |registers, answer, code, memory, calls| step(registers, answer, code, memory, calls, None),
+    run: |registers, answer, budget, code, memory| run(registers, answer, budget, code, memory, None, None, None),
+    trace_execution: |registers, answer, budget, code, memory, log| {
+        run(registers, answer, budget, code, memory, Some(log), None, None)
+    },
     trace_rows: |registers, answer, budget, code, memory, log, table| {
-        run(registers, answer, budget, code, memory, Some(log), Some(table))
+        run(registers, answer, budget, code, memory, Some(log), Some(table), None)
+    },
+    open_with_fees: |registers, answer, revision, digest, cells, code, memory, fees| {
+        open(registers, answer, revision, digest, cells, code, memory, Some(fees))
+    },
+    step_with_fees: |registers, answer, code, memory, calls, fees| step(registers, answer, code, memory, calls, Some(fees)),
+    run_with_fees: |registers, answer, budget, code, memory, fees| {
+        run(registers, answer, budget, code, memory, None, None, Some(fees))
+    },
+    trace_execution_with_fees: |registers, answer, budget, code, memory, log, fees| {
+        run(registers, answer, budget, code, memory, Some(log), None, Some(fees))
+    },
+    trace_rows_with_fees: |registers, answer, budget, code, memory, log, table, fees| {
+        run(registers, answer, budget, code, memory, Some(log), Some(table), Some(fees))
     },
     helper_variables,
     processor_row,
 };
 
-#[rustfmt::skip]
-fn open(registers: &mut [u64], answer: &mut [u64], revision: u64, digest: &[u64], cells: u64, code: Code, memory: Memory) -> u64 {
-    let number = place_a(&Handed::Open { registers, answer, revision, digest, cells }, code, memory.view());
-    if number == 0 {
+/// The table is checked last of all, and nothing of it is kept. The answer has seven words with a table too.
+#[allow(clippy::too_many_arguments)]
+fn open(
+    registers: &mut [u64],
+    answer: &mut [u64],
+    revision: u64,
+    digest: &[u64],
+    cells: u64,
+    code: Code,
+    memory: Memory,
+    fees: Option<Fees>,
+) -> u64 {
+    let handed = Handed::Open { registers, answer, revision, digest, cells, fees };
+    let checked = refused(place_a(&handed, code, memory.view())).and_then(|()| fees::check(fees));
+    if checked.is_ok() {
         memory.op_stack.fill(0);
         memory.origins.fill(0);
         memory.destinations.fill(0);
@@ -221,24 +250,28 @@ fn open(registers: &mut [u64], answer: &mut [u64], revision: u64, digest: &[u64]
         registers[register::CELLS] = cells;
         registers[register::REVISION] = revision;
     }
-    answered(answer, ending::DONE, refused(number), 0, 0)
+    answered(answer, ending::DONE, checked, 0, 0, None)
 }
 
-fn step(registers: &mut [u64], answer: &mut [u64], code: Code, mut memory: Memory, calls: &mut [u8]) -> u64 {
-    let number = place_a(&Handed::Step { registers, answer, calls }, code, memory.view());
-    if number != 0 {
-        return answered(answer, 0, refused(number), 0, 0);
+fn step(registers: &mut [u64], answer: &mut [u64], code: Code, mut memory: Memory, calls: &mut [u8], fees: Option<Fees>) -> u64 {
+    let row = |row: u64| fees.map(|_| row);
+    let handed = Handed::Step { registers, answer, calls, fees };
+    if let Err(refusal) = refused(place_a(&handed, code, memory.view())).and_then(|()| fees::check(fees)) {
+        return answered(answer, 0, Err(refusal), 0, 0, row(0));
     }
     let mut vm = Vm::new(registers, memory.view());
+    let at = vm.pointer;
     let stepped = vm.step(code, &Room::of(&memory));
     vm.store(registers, &mut memory);
     match stepped {
         Ok(records) => {
             let bytes = bytes_of(&records);
             calls[..bytes.len()].copy_from_slice(&bytes);
-            answered(answer, ending::DONE, Ok(()), 1, bytes.len())
+            // of the slot at the pointer handed in
+            let row = fees.map(|fees| fees::priced(fees, code.opcodes[at as usize]).0);
+            answered(answer, ending::DONE, Ok(()), 1, bytes.len(), row)
         }
-        Err(refusal) => answered(answer, 0, Err(refusal), 0, 0),
+        Err(refusal) => answered(answer, 0, Err(refusal), 0, 0, row(0)),
     }
 }
 
@@ -271,7 +304,8 @@ fn read(
 }
 
 /// `run`, with a log `trace_execution`, with a table too `trace_rows`: halted is tried first, then spent, then whether the log is
-/// full, then whether the table is, then a step.
+/// full, then whether the table is, then a step. With a fee table each step that succeeds costs what its row says.
+#[allow(clippy::too_many_arguments)]
 fn run(
     registers: &mut [u64],
     answer: &mut [u64],
@@ -280,15 +314,16 @@ fn run(
     mut memory: Memory,
     mut log: Option<&mut [u8]>,
     mut table: Option<&mut [u64]>,
+    fees: Option<Fees>,
 ) -> u64 {
     let (all_log, all_rows) = (log.as_deref().unwrap_or(&[]), table.as_deref().unwrap_or(&[]));
-    let number = place_a(&Handed::Run { registers, answer, log: all_log, rows: all_rows }, code, memory.view());
-    if number != 0 {
-        return answered(answer, 0, refused(number), 0, 0);
+    let handed = Handed::Run { registers, answer, log: all_log, rows: all_rows, fees };
+    if let Err(refusal) = refused(place_a(&handed, code, memory.view())).and_then(|()| fees::check(fees)) {
+        return answered(answer, 0, Err(refusal), 0, 0, fees.map(|_| 0));
     }
     let room = Room::of(&memory);
     let mut vm = Vm::new(registers, memory.view());
-    let (mut steps, mut bytes, mut words) = (0, 0, 0);
+    let (mut steps, mut bytes, mut words, mut fee) = (0, 0, 0, 0);
     let (ending, end) = loop {
         if vm.halted {
             break (ending::DONE, Ok(()));
@@ -303,9 +338,11 @@ fn run(
             break (ending::TABLE_FULL, Ok(()));
         }
         let row = table.as_ref().map(|_| vm.row(code));
+        let at = vm.pointer;
         match vm.step(code, &room) {
             Ok(records) => {
                 steps += 1;
+                fee += fees.map_or(0, |fees| fees::priced(fees, code.opcodes[at as usize]).1);
                 if let (Some(table), Some(row)) = (&mut table, row) {
                     table[words..words + row.len()].copy_from_slice(&row);
                     words += row.len();
@@ -320,7 +357,7 @@ fn run(
         }
     };
     vm.store(registers, &mut memory);
-    answered(answer, ending, end, steps, bytes)
+    answered(answer, ending, end, steps, bytes, fees.map(|_| fee))
 }
 
 fn refused(number: u64) -> Result<(), Refusal> {
@@ -330,14 +367,17 @@ fn refused(number: u64) -> Result<(), Refusal> {
     }
 }
 
-/// Fills the answer, if it has the length of one, and gives the number.
-fn answered(answer: &mut [u64], ending: u64, end: Result<(), Refusal>, steps: u64, bytes: usize) -> u64 {
+/// Fills the answer, if it has the length of one, and gives the number. Behind the seven words stands the row or the fee, of a call
+/// that gives one.
+fn answered(answer: &mut [u64], ending: u64, end: Result<(), Refusal>, steps: u64, bytes: usize, priced: Option<u64>) -> u64 {
     let (ending, Refusal { number, words }) = match end {
         Ok(()) => (ending, Refusal { number: 0, words: [0; 3] }),
         Err(refusal) => (ending::REFUSED, refusal),
     };
-    if answer.len() == answer::ALL {
-        answer.copy_from_slice(&[ending, number, words[0], words[1], words[2], steps, bytes as u64]);
+    let mut all = vec![ending, number, words[0], words[1], words[2], steps, bytes as u64];
+    all.extend(priced);
+    if answer.len() == all.len() {
+        answer.copy_from_slice(&all);
     }
     number
 }

@@ -1,7 +1,7 @@
 //! Everything lent between guards, and one call on it.
 use crate::input::{Export, Input};
 use host::guard::Guarded;
-use host::lent::{Calls, Code, Memory};
+use host::lent::{Calls, Code, Fees, Memory};
 
 /// Everything that a call is lent, each slice between its guards.
 pub struct Arena {
@@ -10,6 +10,8 @@ pub struct Arena {
     answer: Guarded<u64>,
     digest: Guarded<u64>,
     table: Guarded<u64>,
+    /// Lowest, highest, fees.
+    fees: [Guarded<u64>; 3],
     bytes: Guarded<u8>,
 }
 
@@ -17,7 +19,8 @@ impl Arena {
     pub fn new(guard: u64) -> Arena {
         let words = || Guarded::new(guard);
         let slices = core::array::from_fn(|_| words());
-        Arena { slices, answer: words(), digest: words(), table: words(), bytes: Guarded::new(guard as u8) }
+        let fees = core::array::from_fn(|_| words());
+        Arena { slices, answer: words(), digest: words(), table: words(), fees, bytes: Guarded::new(guard as u8) }
     }
 
     /// Calls on a copy of the input, and gives the number.
@@ -28,18 +31,27 @@ impl Arena {
         self.answer.set(&input.answer);
         self.digest.set(&input.digest);
         self.table.set(&input.table);
+        self.fees.iter_mut().zip(fees_of(input)).for_each(|(guarded, slice)| guarded.set(slice));
         self.bytes.set(&input.bytes);
         let [registers, opcodes, arguments, public, secret, digests, op_stack, origins, destinations, addresses, values, output] =
             self.slices.each_mut().map(|guarded| guarded.slice());
         let code = Code { opcodes, arguments, public, secret, digests };
         let memory = Memory { op_stack, origins, destinations, addresses, values, output };
         let (answer, digest, table, bytes) = (self.answer.slice(), self.digest.slice(), self.table.slice(), self.bytes.slice());
+        let [lowest, highest, fees] = self.fees.each_mut().map(|guarded| &*guarded.slice());
+        let fees = Fees { lowest, highest, fees };
+        let Input { revision, cells, budget, .. } = *input;
         match export {
-            Export::Open => (by.open)(registers, answer, input.revision, digest, input.cells, code, memory),
+            Export::Open => (by.open)(registers, answer, revision, digest, cells, code, memory),
             Export::Step => (by.step)(registers, answer, code, memory, bytes),
-            Export::Run => (by.run)(registers, answer, input.budget, code, memory),
-            Export::Trace => (by.trace_execution)(registers, answer, input.budget, code, memory, bytes),
-            Export::Rows => (by.trace_rows)(registers, answer, input.budget, code, memory, bytes, table),
+            Export::Run => (by.run)(registers, answer, budget, code, memory),
+            Export::Trace => (by.trace_execution)(registers, answer, budget, code, memory, bytes),
+            Export::Rows => (by.trace_rows)(registers, answer, budget, code, memory, bytes, table),
+            Export::OpenWithFees => (by.open_with_fees)(registers, answer, revision, digest, cells, code, memory, fees),
+            Export::StepWithFees => (by.step_with_fees)(registers, answer, code, memory, bytes, fees),
+            Export::RunWithFees => (by.run_with_fees)(registers, answer, budget, code, memory, fees),
+            Export::TraceWithFees => (by.trace_execution_with_fees)(registers, answer, budget, code, memory, bytes, fees),
+            Export::RowsWithFees => (by.trace_rows_with_fees)(registers, answer, budget, code, memory, bytes, table, fees),
             Export::Helpers => (by.helper_variables)(registers, answer, code, memory.view()),
             Export::Row => (by.processor_row)(registers, answer, code, memory.view()),
         }
@@ -59,6 +71,9 @@ impl Arena {
             ("answer", &self.answer, &other.answer),
             ("digest", &self.digest, &other.digest),
             ("table", &self.table, &other.table),
+            ("lowest", &self.fees[0], &other.fees[0]),
+            ("highest", &self.fees[1], &other.fees[1]),
+            ("fees", &self.fees[2], &other.fees[2]),
         ] {
             if !mine.is_intact() {
                 return Some(format!("{name}: a guard was written to"));
@@ -82,5 +97,10 @@ impl Arena {
         slices.into_iter().all(|(guarded, slice)| guarded.holds(slice))
             && self.bytes.holds(&input.bytes)
             && self.table.holds(&input.table)
+            && self.fees.iter().zip(fees_of(input)).all(|(guarded, slice)| guarded.holds(slice))
     }
+}
+
+fn fees_of(input: &Input) -> [&Vec<u64>; 3] {
+    [&input.fees.lowest, &input.fees.highest, &input.fees.fees]
 }

@@ -1,6 +1,7 @@
 //! Inputs: any numbers in slices of any length, machines that place A accepts, and such machines damaged in one place.
 use host::cells::disorder;
 use host::check::least;
+use host::fees::{self, Table};
 use host::field::P;
 use host::instructions::{named, ALL};
 use host::job::{Before, Job, Room};
@@ -18,10 +19,27 @@ pub enum Export {
     Rows,
     Helpers,
     Row,
+    OpenWithFees,
+    StepWithFees,
+    RunWithFees,
+    TraceWithFees,
+    RowsWithFees,
 }
 
-pub const EXPORTS: [Export; 7] =
-    [Export::Open, Export::Step, Export::Run, Export::Trace, Export::Rows, Export::Helpers, Export::Row];
+pub const EXPORTS: [Export; 12] = [
+    Export::Open,
+    Export::Step,
+    Export::Run,
+    Export::Trace,
+    Export::Rows,
+    Export::Helpers,
+    Export::Row,
+    Export::OpenWithFees,
+    Export::StepWithFees,
+    Export::RunWithFees,
+    Export::TraceWithFees,
+    Export::RowsWithFees,
+];
 
 impl Export {
     pub fn name(self) -> &'static str {
@@ -33,20 +51,38 @@ impl Export {
             Export::Rows => "triton_trace_rows",
             Export::Helpers => "triton_helper_variables",
             Export::Row => "triton_processor_row",
+            Export::OpenWithFees => "triton_open_with_fees",
+            Export::StepWithFees => "triton_step_with_fees",
+            Export::RunWithFees => "triton_run_with_fees",
+            Export::TraceWithFees => "triton_trace_execution_with_fees",
+            Export::RowsWithFees => "triton_trace_rows_with_fees",
+        }
+    }
+
+    /// The one that takes the same but for the fee table, and whether it takes one.
+    fn without_fees(self) -> (Export, bool) {
+        match self {
+            Export::OpenWithFees => (Export::Open, true),
+            Export::StepWithFees => (Export::Step, true),
+            Export::RunWithFees => (Export::Run, true),
+            Export::TraceWithFees => (Export::Trace, true),
+            Export::RowsWithFees => (Export::Rows, true),
+            other => (other, false),
         }
     }
 
     /// Whether it takes steps up to a budget.
     pub fn has_budget(self) -> bool {
-        matches!(self, Export::Run | Export::Trace | Export::Rows)
+        matches!(self.without_fees().0, Export::Run | Export::Trace | Export::Rows)
     }
 
     /// How long the answer has to be; the helper variables and the row have its place.
     fn answer_length(self) -> usize {
-        match self {
-            Export::Helpers => 6,
-            Export::Row => column::ALL,
-            _ => answer::ALL,
+        match self.without_fees() {
+            (Export::Helpers, _) => 6,
+            (Export::Row, _) => column::ALL,
+            (Export::Open, _) | (_, false) => answer::ALL,
+            (_, true) => answer::WITH_FEES,
         }
     }
 }
@@ -62,6 +98,8 @@ pub struct Input {
     pub bytes: Vec<u8>,
     /// For rows.
     pub table: Vec<u64>,
+    /// For the calls with fees.
+    pub fees: Table,
     pub cells: u64,
     pub budget: u64,
 }
@@ -75,9 +113,9 @@ pub fn inputs(export: Export, random: &mut Random) -> Vec<Input> {
     let mut inputs = vec![sound.clone()];
     for _ in 0..9 {
         let mut input = sound.clone();
-        damage(&mut input, random);
+        damage(export, &mut input, random);
         if random.once_in(5) {
-            damage(&mut input, random);
+            damage(export, &mut input, random);
         }
         inputs.push(input);
     }
@@ -110,6 +148,7 @@ fn arbitrary(export: Export, random: &mut Random) -> Input {
         digest: (0..lengths[1]).map(|_| number(random, small)).collect(),
         bytes: vec![random.next() as u8; lengths[2]],
         table: vec![random.next(); lengths[3]],
+        fees: any_fees(export, random),
         cells: random.below(40),
         budget: random.below(20),
     }
@@ -155,7 +194,8 @@ fn sound(export: Export, random: &mut Random) -> Input {
             job.started(room, &before, revision, random)
         }
     };
-    let bytes = match export {
+    let (shape, has_fees) = export.without_fees();
+    let bytes = match shape {
         Export::Step => step_bytes(machine.registers[register::REVISION]) + random.index(2),
         Export::Trace | Export::Rows => {
             let most = random.pick(&[2_000, 4_000, 20_000]);
@@ -163,7 +203,7 @@ fn sound(export: Export, random: &mut Random) -> Input {
         }
         _ => 0,
     };
-    let words = match export {
+    let words = match shape {
         Export::Rows => {
             let most = random.pick(&[2, 8, 100]);
             random.index(most * column::ALL)
@@ -177,6 +217,7 @@ fn sound(export: Export, random: &mut Random) -> Input {
         digest: random.words(5),
         bytes: vec![random.next() as u8; bytes],
         table: vec![random.next(); words],
+        fees: if has_fees { fees::good(random) } else { Table::default() },
         cells: random.below(job.ram.len() as u64 + 1),
         budget,
     }
@@ -211,8 +252,30 @@ fn any_revision(random: &mut Random) -> u64 {
     }
 }
 
-/// One place changed.
-fn damage(input: &mut Input, random: &mut Random) {
+/// A table of any kind, or slices of any numbers.
+fn any_fees(export: Export, random: &mut Random) -> Table {
+    if !export.without_fees().1 {
+        return Table::default();
+    }
+    if random.once_in(2) {
+        return fees::any(random);
+    }
+    let small = random.once_in(2);
+    let length = random.index(70);
+    let mut slice = || -> Vec<u64> {
+        let length = if random.once_in(12) { random.index(70) } else { length };
+        (0..length).map(|_| number(random, small)).collect()
+    };
+    let (lowest, highest) = (slice(), slice());
+    Table { lowest, highest, fees: slice().iter().map(|word| word % (1 << 32)).collect() }
+}
+
+/// One place changed, or the fee table.
+fn damage(export: Export, input: &mut Input, random: &mut Random) {
+    if export.without_fees().1 && random.once_in(3) {
+        input.fees = any_fees(export, random);
+        return;
+    }
     let registers = &mut input.machine.registers;
     match random.below(23) {
         22 => resize(&mut input.table, random),

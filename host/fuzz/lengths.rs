@@ -1,8 +1,12 @@
 //! The longest slices: one of the limit's length is taken, one longer is refused with 1. And RAM of the limit's length, used up.
 use crate::by_record::BY_RECORD;
+use host::fees::Table;
 use host::instructions::named;
-use host::lent::{answer, column, ending, register, Machine, LIBRARY, LONGEST, STEP_BYTES};
+use host::lent::{answer, column, ending, register, Fees, Machine, LIBRARY, LONGEST, STEP_BYTES};
 use host::model::MODEL;
+
+/// A fee table that is good.
+const ONE_ROW: Fees = Fees { lowest: &[0], highest: &[u64::MAX], fees: &[7] };
 
 /// Slices that have to be of one length go together; the digests are in fives.
 const GROUPS: [(&[usize], usize, usize); 7] = [
@@ -28,6 +32,7 @@ pub fn check() {
     calls(&mut small(), LONGEST, 0);
     buffers(&mut small(), LONGEST + 1, 1);
     tables();
+    fee_tables();
     println!("slices of 16,777,216 elements are taken, longer ones refused");
     full_ram();
     println!("16,777,216 used cells are kept in order");
@@ -93,6 +98,9 @@ fn calls(machine: &mut Machine, buffer: usize, expected: u64) {
         assert_eq!((number, row_number), (expected, expected));
         assert_eq!(machine.run(by, 0)[answer::NUMBER], expected);
         assert_eq!(machine.open(by, 1, &[0; 5], 0)[answer::NUMBER], expected);
+        let fees = Some(ONE_ROW);
+        assert_eq!(machine.run_priced(by, 0, fees).0[answer::NUMBER], expected);
+        assert_eq!(machine.open_priced(by, 1, &[0; 5], 0, fees)[answer::NUMBER], expected);
     }
     buffers(machine, buffer, expected);
 }
@@ -107,7 +115,35 @@ fn buffers(machine: &mut Machine, length: usize, expected: u64) {
         assert_eq!(machine.trace_execution(by, 1, &mut buffer)[answer::NUMBER], expected);
         machine.registers = before.clone();
         assert_eq!(machine.trace_rows(by, 1, &mut buffer, &mut [0; column::ALL])[answer::NUMBER], expected);
+        let fees = Some(ONE_ROW);
+        machine.registers = before.clone();
+        assert_eq!(machine.step_priced(by, &mut buffer, fees).0[answer::NUMBER], expected);
+        machine.registers = before.clone();
+        assert_eq!(machine.trace_priced(by, 1, &mut buffer, fees).0[answer::NUMBER], expected);
+        machine.registers = before.clone();
+        assert_eq!(machine.rows_priced(by, 1, &mut buffer, &mut [0; column::ALL], fees).0[answer::NUMBER], expected);
         machine.registers = before;
+    }
+}
+
+/// Fee tables of as many rows as a slice may have, which are too many, and of one more, which is no shape.
+fn fee_tables() {
+    for (rows, expected) in [(LONGEST, 64), (LONGEST + 1, 1)] {
+        let table = Table { lowest: vec![0; rows], highest: vec![88; rows], fees: vec![7; rows] };
+        let fees = Some(table.slices());
+        for by in [&LIBRARY, &MODEL] {
+            let (mut machine, mut buffer, mut rows) = (small(), [9; STEP_BYTES], [9; column::ALL]);
+            let priced = [
+                machine.step_priced(by, &mut buffer, fees),
+                machine.run_priced(by, 1, fees),
+                machine.trace_priced(by, 1, &mut buffer, fees),
+                machine.rows_priced(by, 1, &mut buffer, &mut rows, fees),
+            ];
+            let answer = [ending::REFUSED, expected, 0, 0, 0, 0, 0];
+            assert_eq!(priced, [(answer, Some(0)); 4]);
+            assert_eq!(machine.open_priced(by, 1, &[0; 5], 0, fees), answer);
+            assert_eq!((machine, buffer, rows), (small(), [9; STEP_BYTES], [9; column::ALL]));
+        }
     }
 }
 

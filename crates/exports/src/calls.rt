@@ -6,20 +6,26 @@ ghost use Rattle.exports_calls.specs.RunCall.{runCall, traceCall, rowsCall};
 ghost use Rattle.exports_calls.specs.StepCall.{stepCall};
 ghost use Rattle.exports_calls.specs.ThinCall.{thinCall, thinly};
 ghost use Rattle.exports_words.specs.Calls.{interfaceVersion, called, recorded, tabled};
+ghost use Rattle.machine.specs.FeeTable.{feeTable, unpriced, priced};
 ghost use Rattle.machine.specs.Ram.{cells as cellsOf};
 ghost use Rattle.machine.specs.Given.{given};
 ghost use Rattle.machine.specs.Lent.{codeIn, memoryIn, memoryOut};
 ghost use mathlib.Core.Path.{_≡_};
 use exports_calls::helper_variables::helper_call;
 use exports_calls::open::open_call;
+use exports_calls::open::open_with_fees_call;
 use exports_calls::processor_row::row_call;
 use exports_calls::replay_call::replay_call;
 use exports_calls::rows::rows_call;
+use exports_calls::rows::rows_with_fees_call;
 use exports_calls::run::run_call;
+use exports_calls::run::run_with_fees_call;
 use exports_calls::step::step_call;
+use exports_calls::step::step_with_fees_call;
 use exports_calls::thin::Registers;
 use exports_calls::thin::step_reply;
 use exports_calls::trace::trace_call;
+use exports_calls::trace::trace_with_fees_call;
 
 // The number of this interface. It is raised where a call gets other parameters, or a word another meaning.
 #[no_mangle]
@@ -51,7 +57,7 @@ pub extern "C" fn triton_open(
 ) -> u64
     ensures { λ r. ⌜ called r (now (registers .exit)) (now (answer .exit))
         (memoryOut «op_stack» origins destinations addresses values output)
-        ≡ openCall (now (registers .entry)) (now (answer .entry)) revision (now (digest .entry)) cells
+        ≡ openCall unpriced (now (registers .entry)) (now (answer .entry)) revision (now (digest .entry)) cells
         (codeIn opcodes arguments public secret digests)
         (memoryIn «op_stack» origins destinations addresses values output) ⌝ }
 {
@@ -95,7 +101,7 @@ pub extern "C" fn triton_step(
 ) -> u64
     ensures { λ r. ⌜ recorded (called r (now (registers .exit)) (now (answer .exit))
         (memoryOut «op_stack» origins destinations addresses values output)) (now (calls .exit))
-        ≡ stepCall (now (registers .entry)) (now (answer .entry))
+        ≡ stepCall unpriced (now (registers .entry)) (now (answer .entry))
         (codeIn opcodes arguments public secret digests)
         (memoryIn «op_stack» origins destinations addresses values output) (now (calls .entry)) ⌝ }
 {
@@ -180,7 +186,7 @@ pub extern "C" fn triton_run(
 ) -> u64
     ensures { λ r. ⌜ called r (now (registers .exit)) (now (answer .exit))
         (memoryOut «op_stack» origins destinations addresses values output)
-        ≡ runCall budget (now (registers .entry)) (now (answer .entry))
+        ≡ runCall unpriced budget (now (registers .entry)) (now (answer .entry))
         (codeIn opcodes arguments public secret digests)
         (memoryIn «op_stack» origins destinations addresses values output) ⌝ }
 {
@@ -223,7 +229,7 @@ pub extern "C" fn triton_trace_execution(
 ) -> u64
     ensures { λ r. ⌜ recorded (called r (now (registers .exit)) (now (answer .exit))
         (memoryOut «op_stack» origins destinations addresses values output)) (now (calls .exit))
-        ≡ traceCall budget (now (registers .entry)) (now (answer .entry))
+        ≡ traceCall unpriced budget (now (registers .entry)) (now (answer .entry))
         (codeIn opcodes arguments public secret digests)
         (memoryIn «op_stack» origins destinations addresses values output) (now (calls .entry)) ⌝ }
 {
@@ -268,7 +274,7 @@ pub extern "C" fn triton_trace_rows(
 ) -> u64
     ensures { λ r. ⌜ tabled (recorded (called r (now (registers .exit)) (now (answer .exit))
         (memoryOut «op_stack» origins destinations addresses values output)) (now (calls .exit))) (now (rows .exit))
-        ≡ rowsCall budget (now (registers .entry)) (now (answer .entry))
+        ≡ rowsCall unpriced budget (now (registers .entry)) (now (answer .entry))
         (codeIn opcodes arguments public secret digests)
         (memoryIn «op_stack» origins destinations addresses values output) (now (calls .entry)) (now (rows .entry)) ⌝ }
 {
@@ -392,5 +398,255 @@ pub extern "C" fn triton_replay(
         addresses,
         values,
         words,
+    )
+}
+
+// With a fee table, which is looked at last of all.
+#[no_mangle]
+pub extern "C" fn triton_open_with_fees(
+    registers: &mut [u64],
+    answer: &mut [u64],
+    revision: u64,
+    digest: &[u64],
+    cells: u64,
+    opcodes: &[u64],
+    arguments: &[u64],
+    public: &[u64],
+    secret: &[u64],
+    digests: &[u64],
+    op_stack: &mut [u64],
+    origins: &mut [u64],
+    destinations: &mut [u64],
+    addresses: &[u64],
+    values: &[u64],
+    output: &[u64],
+    lowest: &[u64],
+    highest: &[u64],
+    fees: &[u64],
+) -> u64
+    ensures { λ r. ⌜ called r (now (registers .exit)) (now (answer .exit))
+        (memoryOut «op_stack» origins destinations addresses values output)
+        ≡ openCall (priced (feeTable (now (lowest .entry)) (now (highest .entry)) (now (fees .entry)))) (now (registers .entry)) (now (answer .entry)) revision (now (digest .entry)) cells
+        (codeIn opcodes arguments public secret digests)
+        (memoryIn «op_stack» origins destinations addresses values output) ⌝ }
+{
+    open_with_fees_call(
+        registers,
+        answer,
+        revision,
+        digest,
+        cells,
+        opcodes,
+        arguments,
+        public,
+        secret,
+        digests,
+        op_stack,
+        origins,
+        destinations,
+        addresses,
+        values,
+        output,
+        lowest,
+        highest,
+        fees,
+    )
+}
+
+// With a fee table; the answer has eight words, the last the row that priced the step.
+#[no_mangle]
+pub extern "C" fn triton_step_with_fees(
+    registers: &mut [u64],
+    answer: &mut [u64],
+    opcodes: &[u64],
+    arguments: &[u64],
+    public: &[u64],
+    secret: &[u64],
+    digests: &[u64],
+    op_stack: &mut [u64],
+    origins: &mut [u64],
+    destinations: &mut [u64],
+    addresses: &mut [u64],
+    values: &mut [u64],
+    output: &mut [u64],
+    calls: &mut [u8],
+    lowest: &[u64],
+    highest: &[u64],
+    fees: &[u64],
+) -> u64
+    ensures { λ r. ⌜ recorded (called r (now (registers .exit)) (now (answer .exit))
+        (memoryOut «op_stack» origins destinations addresses values output)) (now (calls .exit))
+        ≡ stepCall (priced (feeTable (now (lowest .entry)) (now (highest .entry)) (now (fees .entry)))) (now (registers .entry)) (now (answer .entry))
+        (codeIn opcodes arguments public secret digests)
+        (memoryIn «op_stack» origins destinations addresses values output) (now (calls .entry)) ⌝ }
+{
+    step_with_fees_call(
+        registers,
+        answer,
+        opcodes,
+        arguments,
+        public,
+        secret,
+        digests,
+        op_stack,
+        origins,
+        destinations,
+        addresses,
+        values,
+        output,
+        calls,
+        lowest,
+        highest,
+        fees,
+    )
+}
+
+// With a fee table; the answer has eight words, the last what the steps cost.
+#[no_mangle]
+pub extern "C" fn triton_run_with_fees(
+    registers: &mut [u64],
+    answer: &mut [u64],
+    budget: u64,
+    opcodes: &[u64],
+    arguments: &[u64],
+    public: &[u64],
+    secret: &[u64],
+    digests: &[u64],
+    op_stack: &mut [u64],
+    origins: &mut [u64],
+    destinations: &mut [u64],
+    addresses: &mut [u64],
+    values: &mut [u64],
+    output: &mut [u64],
+    lowest: &[u64],
+    highest: &[u64],
+    fees: &[u64],
+) -> u64
+    ensures { λ r. ⌜ called r (now (registers .exit)) (now (answer .exit))
+        (memoryOut «op_stack» origins destinations addresses values output)
+        ≡ runCall (priced (feeTable (now (lowest .entry)) (now (highest .entry)) (now (fees .entry)))) budget (now (registers .entry)) (now (answer .entry))
+        (codeIn opcodes arguments public secret digests)
+        (memoryIn «op_stack» origins destinations addresses values output) ⌝ }
+{
+    run_with_fees_call(
+        registers,
+        answer,
+        budget,
+        opcodes,
+        arguments,
+        public,
+        secret,
+        digests,
+        op_stack,
+        origins,
+        destinations,
+        addresses,
+        values,
+        output,
+        lowest,
+        highest,
+        fees,
+    )
+}
+
+// The same with a fee table.
+#[no_mangle]
+pub extern "C" fn triton_trace_execution_with_fees(
+    registers: &mut [u64],
+    answer: &mut [u64],
+    budget: u64,
+    opcodes: &[u64],
+    arguments: &[u64],
+    public: &[u64],
+    secret: &[u64],
+    digests: &[u64],
+    op_stack: &mut [u64],
+    origins: &mut [u64],
+    destinations: &mut [u64],
+    addresses: &mut [u64],
+    values: &mut [u64],
+    output: &mut [u64],
+    calls: &mut [u8],
+    lowest: &[u64],
+    highest: &[u64],
+    fees: &[u64],
+) -> u64
+    ensures { λ r. ⌜ recorded (called r (now (registers .exit)) (now (answer .exit))
+        (memoryOut «op_stack» origins destinations addresses values output)) (now (calls .exit))
+        ≡ traceCall (priced (feeTable (now (lowest .entry)) (now (highest .entry)) (now (fees .entry)))) budget (now (registers .entry)) (now (answer .entry))
+        (codeIn opcodes arguments public secret digests)
+        (memoryIn «op_stack» origins destinations addresses values output) (now (calls .entry)) ⌝ }
+{
+    trace_with_fees_call(
+        registers,
+        answer,
+        budget,
+        opcodes,
+        arguments,
+        public,
+        secret,
+        digests,
+        op_stack,
+        origins,
+        destinations,
+        addresses,
+        values,
+        output,
+        calls,
+        lowest,
+        highest,
+        fees,
+    )
+}
+
+// The same with a fee table.
+#[no_mangle]
+pub extern "C" fn triton_trace_rows_with_fees(
+    registers: &mut [u64],
+    answer: &mut [u64],
+    budget: u64,
+    opcodes: &[u64],
+    arguments: &[u64],
+    public: &[u64],
+    secret: &[u64],
+    digests: &[u64],
+    op_stack: &mut [u64],
+    origins: &mut [u64],
+    destinations: &mut [u64],
+    addresses: &mut [u64],
+    values: &mut [u64],
+    output: &mut [u64],
+    calls: &mut [u8],
+    rows: &mut [u64],
+    lowest: &[u64],
+    highest: &[u64],
+    fees: &[u64],
+) -> u64
+    ensures { λ r. ⌜ tabled (recorded (called r (now (registers .exit)) (now (answer .exit))
+        (memoryOut «op_stack» origins destinations addresses values output)) (now (calls .exit))) (now (rows .exit))
+        ≡ rowsCall (priced (feeTable (now (lowest .entry)) (now (highest .entry)) (now (fees .entry)))) budget (now (registers .entry)) (now (answer .entry))
+        (codeIn opcodes arguments public secret digests)
+        (memoryIn «op_stack» origins destinations addresses values output) (now (calls .entry)) (now (rows .entry)) ⌝ }
+{
+    rows_with_fees_call(
+        registers,
+        answer,
+        budget,
+        opcodes,
+        arguments,
+        public,
+        secret,
+        digests,
+        op_stack,
+        origins,
+        destinations,
+        addresses,
+        values,
+        output,
+        calls,
+        rows,
+        lowest,
+        highest,
+        fees,
     )
 }

@@ -14,6 +14,8 @@ use Rattle.machine.specs.Machine.{Code, Memory, Machine, machine}
 use Rattle.machine.specs.Decide.{decideOf}
 use Rattle.machine.specs.Apply.{Outcome, took, kept, lost, dropped}
 use Rattle.machine.specs.PlaceA.{machineA}
+use Rattle.machine.specs.FeeTable.{Fees, unpriced}
+use Rattle.machine.specs.Fee.{feeOf, rowNamed}
 use Rattle.machine.specs.Open.{openOf}
 use Rattle.machine.specs.Lengths.{rowWords}
 use Rattle.machine.specs.Step.{Stepped, stepOf}
@@ -29,14 +31,14 @@ use Rattle.machine_perform.specs.AnswerView.{answeredBy}
 use Rattle.machine_vm.specs.RunView.{pathLog}
 use Rattle.replay.specs.Replay.{replayOf}
 use Rattle.exports_words.specs.Registers.{stateOf}
-use Rattle.exports_words.specs.Report.{report, answerOf, stepReport, runReport}
+use Rattle.exports_words.specs.Report.{report, answerWords, answerOf, stepReport, runReport}
 use Rattle.exports_words.specs.Calls.{Called, Recorded, recorded, Tabled, tabled, fitsOf, misfitted, reported}
 use Rattle.exports_calls.specs.StepCall.{stepCall}
 use Rattle.exports_calls.specs.RunCall.{runGives, runCall, traceGives, traceCall, rowsGives, rowsCall}
 use Rattle.exports_calls.specs.OpenCall.{openFitsOf, openGives, openCall}
 use Rattle.exports_calls.specs.GivenCall.{zeroed, givenCall, helperCall, rowCall}
 use Rattle.exports_calls.specs.ReplayCall.{Replied, replied, replayCall}
-use Rattle.exports_calls.proofs.RefusedCalls.{refusedCall, same, trace-same, rows-same, step-misfit, run-misfit, trace-misfit, rows-misfit, open-misfit, given-misfit, step-kept, step-lost, replay-refused}
+use Rattle.exports_calls.proofs.RefusedCalls.{refusedCall, run-same, trace-same, rows-same, step-misfit, run-misfit, trace-misfit, rows-misfit, open-misfit, given-misfit, step-kept, step-lost, replay-refused}
 use Rattle.exports_calls.specs.declared.thin.Registers.{Registers}
 use Rattle.exports_calls.specs.ThinCall.{stateIn, Thin, thinly, told, thinGives, thinCall}
 use Rattle.exports_calls.proofs.ReplayCallLaws.{replay-misfits}
@@ -44,42 +46,42 @@ use Rattle.exports_calls.proofs.ThinCallLaws.{thin-misfits, thin-kept}
 
 -- ---- step
 
-module _ (w a : List ℕ) (c : Code) (m : Memory) where
+module _ (f : Fees) (w a : List ℕ) (c : Code) (m : Memory) where
   abbrev from : Machine
   from = machine (stateOf w) c m
 
   pub data StepTurned (b : List ℕ) : Recorded → Type 0 where
     -- slices do not fit: nothing is changed, but that an answer of seven words says so
-    misfit-said : StepTurned b (recorded (misfitted w a m) b)
+    misfit-said : StepTurned b (recorded (misfitted (answerWords f) w a m) b)
     -- nothing is changed but the answer
-    unchanged : (r : Refusal) → StepTurned b (recorded (refusedCall w m r) b)
+    unchanged : (r : Refusal) → StepTurned b (recorded (refusedCall (answerWords f) w m r) b)
     -- skiz on 0 with no next slot, number 11: only its word is dropped
     word-dropped : (r : Refusal) → AtSkiz (machine (stateOf w) c m) r →
-        StepTurned b (recorded (reported (report 3 r 0 0) (dropped (machine (stateOf w) c m) .state) (dropped (machine (stateOf w) c m) .memory)) b)
+        StepTurned b (recorded (reported (answerWords f) (report 3 r 0 0 0) (dropped (machine (stateOf w) c m) .state) (dropped (machine (stateOf w) c m) .memory)) b)
 
-  taken-number : (b : List ℕ) (x : Machine) → fitsOf w a 7 ≡ true → stepOf from b .outcome ≡ took x → stepCall w a c m b .call .number ≡ 0
+  taken-number : (b : List ℕ) (x : Machine) → fitsOf w a (answerWords f) ≡ true → stepOf f from b .outcome ≡ took x → stepCall f w a c m b .call .number ≡ 0
   unfolding stepCall
-  taken-number b x h e = rw h (λ d. stepReport (answeredBy (e d)) (stepOf from b .bytes) .number)
+  taken-number b x h e = rw h (λ d. stepReport (answeredBy (e d)) (stepOf f from b .bytes) (rowNamed f from (e d)) .number)
 
-  turned-by : (b : List ℕ) (s : Stepped) → fitsOf w a 7 ≡ true → stepOf from b ≡ s → M.StepRefused from b s → StepTurned b (stepCall w a c m b)
-  turned-by b _ h e (M.unchanged {r}) = subst (StepTurned b) (sym (step-kept w a c m h b r (ap (λ (s : Stepped). s .outcome) e))) (unchanged r)
-  turned-by b _ h e (M.word-dropped {r} k) = subst (StepTurned b) (sym (step-lost w a c m h b r (dropped from) (ap (λ (s : Stepped). s .outcome) e))) (word-dropped r k)
+  turned-by : (b : List ℕ) (s : Stepped) → fitsOf w a (answerWords f) ≡ true → stepOf f from b ≡ s → M.StepRefused from b s → StepTurned b (stepCall f w a c m b)
+  turned-by b _ h e (M.unchanged {r}) = subst (StepTurned b) (sym (step-kept f w a c m h b r (ap (λ (s : Stepped). s .outcome) e))) (unchanged r)
+  turned-by b _ h e (M.word-dropped {r} k) = subst (StepTurned b) (sym (step-lost f w a c m h b r (dropped from) (ap (λ (s : Stepped). s .outcome) e))) (word-dropped r k)
 
-  pub step-whole : (b : List ℕ) → (stepCall w a c m b .call .number ≡ 0 → ⊥) → StepTurned b (stepCall w a c m b)
-  step-whole b z = go (fitsOf w a 7) refl
+  pub step-whole : (b : List ℕ) → (stepCall f w a c m b .call .number ≡ 0 → ⊥) → StepTurned b (stepCall f w a c m b)
+  step-whole b z = go (fitsOf w a (answerWords f)) refl
     where
-      go : (t : Bool) → fitsOf w a 7 ≡ t → StepTurned b (stepCall w a c m b)
-      go true h = turned-by b (stepOf from b) h refl (M.step-refused from b (λ x e. z (taken-number b x h e)))
-      go false h = subst (StepTurned b) (sym (step-misfit w a c m h b)) misfit-said
+      go : (t : Bool) → fitsOf w a (answerWords f) ≡ t → StepTurned b (stepCall f w a c m b)
+      go true h = turned-by b (stepOf f from b) h refl (M.step-refused f from b (λ x e. z (taken-number b x h e)))
+      go false h = subst (StepTurned b) (sym (step-misfit f w a c m h b)) misfit-said
 
   -- ---- run, trace_execution and trace_rows
 
   -- where the number is not 0, the path ended refused
-  refused-only : (p : Path) (n : ℕ) (A : Type 0) → (runGives p n .number ≡ 0 → ⊥) → ((r : Refusal) → p .ending ≡ refused r → A) → A
+  refused-only : (p : Path) (n : ℕ) (A : Type 0) → (runGives f from p n .number ≡ 0 → ⊥) → ((r : Refusal) → p .ending ≡ refused r → A) → A
   refused-only p n A z k = go (p .ending) refl
     where
       number : Ending → ℕ
-      number e = runReport e (length (p .machines)) n .number
+      number e = runReport e (length (p .machines)) n (feeOf f from (p .machines)) .number
 
       go : (e : Ending) → p .ending ≡ e → A
       go halted q = absurd (z (ap number q))
@@ -92,7 +94,7 @@ module _ (w a : List ℕ) (c : Code) (m : Memory) where
   module _ {R : Type 0} (say : Path → R) (unfit : R) (same : Refusal → R) where
     pub data Turned : R → Type 0 where
       misfit-said : Turned unfit
-      -- place A refuses: nothing is changed but the answer
+      -- place A or the fee table refuses: nothing is changed but the answer
       unchanged : (r : Refusal) → Turned (same r)
       -- the steps before are kept, with their records and rows, and the refused one leaves what a refused step leaves
       after-steps : (p : Path) (r : Refusal) → p .ending ≡ refused r → RefusedAfter decideOf (machine (stateOf w) c m) r p → Turned (say p)
@@ -102,76 +104,76 @@ module _ (w a : List ℕ) (c : Code) (m : Memory) where
     turned p q r h e i (M.after-steps l) = after-steps p r i (subst (RefusedAfter decideOf from r) (sym e) l)
 
     -- the call x, on the path p
-    whole : (x : R) (number : R → ℕ) (n : ℕ) (p : Path) → (fitsOf w a 7 ≡ true → x ≡ say p) → (fitsOf w a 7 ≡ false → x ≡ unfit) → number (say p) ≡ runGives p n .number →
-        (fitsOf w a 7 ≡ true → (r : Refusal) → say (stays (refused r) from) ≡ same r) → ((r : Refusal) → p .ending ≡ refused r → M.RunRefused from r p) → (number x ≡ 0 → ⊥) → Turned x
-    whole x number n p fits misfits is at-once refuses z = go (fitsOf w a 7) refl
+    whole : (x : R) (number : R → ℕ) (n : ℕ) (p : Path) → (fitsOf w a (answerWords f) ≡ true → x ≡ say p) → (fitsOf w a (answerWords f) ≡ false → x ≡ unfit) → number (say p) ≡ runGives f from p n .number →
+        (fitsOf w a (answerWords f) ≡ true → (r : Refusal) → say (stays (refused r) from) ≡ same r) → ((r : Refusal) → p .ending ≡ refused r → M.RunRefused from r p) → (number x ≡ 0 → ⊥) → Turned x
+    whole x number n p fits misfits is at-once refuses z = go (fitsOf w a (answerWords f)) refl
       where
-        go : (t : Bool) → fitsOf w a 7 ≡ t → Turned x
+        go : (t : Bool) → fitsOf w a (answerWords f) ≡ t → Turned x
         go true h =
             let e = fits h in
             subst Turned (sym e) (refused-only p n (Turned (say p)) (λ y. z (ap number e ∙ is ∙ y)) (λ r i. turned p p r (at-once h r) refl i (refuses r i)))
         go false h = subst Turned (sym (misfits h)) misfit-said
 
   abbrev pub RunTurned : Called → Type 0
-  RunTurned = Turned (λ p. runGives p 0) (misfitted w a m) (refusedCall w m)
+  RunTurned = Turned (λ p. runGives f (machine (stateOf w) c m) p 0) (misfitted (answerWords f) w a m) (refusedCall (answerWords f) w m)
 
   abbrev pub TraceTurned : List ℕ → Recorded → Type 0
-  TraceTurned b = Turned (traceGives b (machine (stateOf w) c m)) (recorded (misfitted w a m) b) (λ r. recorded (refusedCall w m r) b)
+  TraceTurned b = Turned (traceGives f b (machine (stateOf w) c m)) (recorded (misfitted (answerWords f) w a m) b) (λ r. recorded (refusedCall (answerWords f) w m r) b)
 
   abbrev pub RowsTurned : List ℕ → List ℕ → Tabled → Type 0
-  RowsTurned b t = Turned (rowsGives b t (machine (stateOf w) c m)) (tabled (recorded (misfitted w a m) b) t) (λ r. tabled (recorded (refusedCall w m r) b) t)
+  RowsTurned b t = Turned (rowsGives f b t (machine (stateOf w) c m)) (tabled (recorded (misfitted (answerWords f) w a m) b) t) (λ r. tabled (recorded (refusedCall (answerWords f) w m r) b) t)
 
-  run-fitted : (budget : ℕ) → fitsOf w a 7 ≡ true → runCall budget w a c m ≡ runGives (runOf budget from) 0
+  run-fitted : (budget : ℕ) → fitsOf w a (answerWords f) ≡ true → runCall f budget w a c m ≡ runGives f from (runOf f budget from) 0
   unfolding runCall
   run-fitted budget h = rw h
 
-  trace-fitted : (budget : ℕ) (b : List ℕ) → fitsOf w a 7 ≡ true → traceCall budget w a c m b ≡ traceGives b from (traceExecutionOf budget from b)
+  trace-fitted : (budget : ℕ) (b : List ℕ) → fitsOf w a (answerWords f) ≡ true → traceCall f budget w a c m b ≡ traceGives f b from (traceExecutionOf f budget from b)
   unfolding traceCall
   trace-fitted budget b h = rw h
 
-  rows-fitted : (budget : ℕ) (b t : List ℕ) → fitsOf w a 7 ≡ true → rowsCall budget w a c m b t ≡ rowsGives b t from (traceRowsOf budget from b t)
+  rows-fitted : (budget : ℕ) (b t : List ℕ) → fitsOf w a (answerWords f) ≡ true → rowsCall f budget w a c m b t ≡ rowsGives f b t from (traceRowsOf f budget from b t)
   unfolding rowsCall
   rows-fitted budget b t h = rw h
 
-  pub run-whole : (budget : ℕ) → (runCall budget w a c m .number ≡ 0 → ⊥) → RunTurned (runCall budget w a c m)
+  pub run-whole : (budget : ℕ) → (runCall f budget w a c m .number ≡ 0 → ⊥) → RunTurned (runCall f budget w a c m)
   run-whole budget =
-      whole (λ p. runGives p 0) (misfitted w a m) (refusedCall w m) (runCall budget w a c m) (λ x. x .number) 0 (runOf budget from)
-      (run-fitted budget) (λ h. run-misfit w a c m h budget) refl (same w a c m) (M.run-refused budget from)
+      whole (λ p. runGives f from p 0) (misfitted (answerWords f) w a m) (refusedCall (answerWords f) w m) (runCall f budget w a c m) (λ x. x .number) 0 (runOf f budget from)
+      (run-fitted budget) (λ h. run-misfit f w a c m h budget) refl (λ h. run-same f w a c m h) (M.run-refused f budget from)
 
-  pub trace-whole : (budget : ℕ) (b : List ℕ) → (traceCall budget w a c m b .call .number ≡ 0 → ⊥) → TraceTurned b (traceCall budget w a c m b)
+  pub trace-whole : (budget : ℕ) (b : List ℕ) → (traceCall f budget w a c m b .call .number ≡ 0 → ⊥) → TraceTurned b (traceCall f budget w a c m b)
   trace-whole budget b =
-      let p = traceExecutionOf budget from b in
-      whole (traceGives b from) (recorded (misfitted w a m) b) (λ r. recorded (refusedCall w m r) b) (traceCall budget w a c m b) (λ x. x .call .number) (length (pathLog from p)) p
-      (trace-fitted budget b) (λ h. trace-misfit w a c m h budget b) refl (λ h. trace-same w a c m h b) (M.trace-refused budget from b)
+      let p = traceExecutionOf f budget from b in
+      whole (traceGives f b from) (recorded (misfitted (answerWords f) w a m) b) (λ r. recorded (refusedCall (answerWords f) w m r) b) (traceCall f budget w a c m b) (λ x. x .call .number) (length (pathLog from p)) p
+      (trace-fitted budget b) (λ h. trace-misfit f w a c m h budget b) refl (λ h. trace-same f w a c m h b) (M.trace-refused f budget from b)
 
-  pub rows-whole : (budget : ℕ) (b t : List ℕ) → (rowsCall budget w a c m b t .call .call .number ≡ 0 → ⊥) → RowsTurned b t (rowsCall budget w a c m b t)
+  pub rows-whole : (budget : ℕ) (b t : List ℕ) → (rowsCall f budget w a c m b t .call .call .number ≡ 0 → ⊥) → RowsTurned b t (rowsCall f budget w a c m b t)
   rows-whole budget b t =
-      let p = traceRowsOf budget from b t in
-      whole (rowsGives b t from) (tabled (recorded (misfitted w a m) b) t) (λ r. tabled (recorded (refusedCall w m r) b) t) (rowsCall budget w a c m b t) (λ x. x .call .call .number) (length (pathLog from p)) p
-      (rows-fitted budget b t) (λ h. rows-misfit w a c m h budget b t) refl (λ h. rows-same w a c m h b t) (M.rows-refused budget from b t)
+      let p = traceRowsOf f budget from b t in
+      whole (rowsGives f b t from) (tabled (recorded (misfitted (answerWords f) w a m) b) t) (λ r. tabled (recorded (refusedCall (answerWords f) w m r) b) t) (rowsCall f budget w a c m b t) (λ x. x .call .call .number) (length (pathLog from p)) p
+      (rows-fitted budget b t) (λ h. rows-misfit f w a c m h budget b t) refl (λ h. rows-same f w a c m h b t) (M.rows-refused f budget from b t)
 
 -- ---- open, helper variables and row, replay
 
--- an open that gives a number: slices do not fit, or place A refuses; nothing is changed but the answer
+-- an open that gives a number: slices do not fit, or place A or the fee table refuses; nothing is changed but the answer
 pub data OpenTurned (w a : List ℕ) (m : Memory) : Called → Type 0 where
-  misfit-said : OpenTurned w a m (misfitted w a m)
-  unchanged : (r : Refusal) → OpenTurned w a m (refusedCall w m r)
+  misfit-said : OpenTurned w a m (misfitted 7 w a m)
+  unchanged : (r : Refusal) → OpenTurned w a m (refusedCall 7 w m r)
 
-open-fitted : (w a : List ℕ) (v : ℕ) (g : List ℕ) (n : ℕ) (c : Code) (m : Memory) → openFitsOf w a g ≡ true → openCall w a v g n c m ≡ openGives w m (openOf v g c m n)
+open-fitted : (f : Fees) (w a : List ℕ) (v : ℕ) (g : List ℕ) (n : ℕ) (c : Code) (m : Memory) → openFitsOf w a g ≡ true → openCall f w a v g n c m ≡ openGives w m (openOf f v g c m n)
 unfolding openCall
-open-fitted w a v g n c m h = rw h
+open-fitted f w a v g n c m h = rw h
 
-pub open-whole : (w a : List ℕ) (v : ℕ) (g : List ℕ) (n : ℕ) (c : Code) (m : Memory) → (openCall w a v g n c m .number ≡ 0 → ⊥) → OpenTurned w a m (openCall w a v g n c m)
-open-whole w a v g n c m z = go (openFitsOf w a g) refl
+pub open-whole : (f : Fees) (w a : List ℕ) (v : ℕ) (g : List ℕ) (n : ℕ) (c : Code) (m : Memory) → (openCall f w a v g n c m .number ≡ 0 → ⊥) → OpenTurned w a m (openCall f w a v g n c m)
+open-whole f w a v g n c m z = go (openFitsOf w a g) refl
   where
     by : (o : Outcome) → (openGives w m o .number ≡ 0 → ⊥) → OpenTurned w a m (openGives w m o)
     by (took x) k = absurd (k refl)
     by (kept r) k = unchanged r
     by (lost r x) k = unchanged r
 
-    go : (t : Bool) → openFitsOf w a g ≡ t → OpenTurned w a m (openCall w a v g n c m)
-    go true h = let e = open-fitted w a v g n c m h in subst (OpenTurned w a m) (sym e) (by (openOf v g c m n) (λ y. z (ap (λ (x : Called). x .number) e ∙ y)))
-    go false h = subst (OpenTurned w a m) (sym (open-misfit w a v g n c m h)) misfit-said
+    go : (t : Bool) → openFitsOf w a g ≡ t → OpenTurned w a m (openCall f w a v g n c m)
+    go true h = let e = open-fitted f w a v g n c m h in subst (OpenTurned w a m) (sym e) (by (openOf f v g c m n) (λ y. z (ap (λ (x : Called). x .number) e ∙ y)))
+    go false h = subst (OpenTurned w a m) (sym (open-misfit f w a v g n c m h)) misfit-said
 
 -- what is left in the slice v of k words: k zeros, or v itself where it has not k words
 abbrev pub GivenTurned : ℕ → List ℕ → List ℕ → Type 0
@@ -237,19 +239,19 @@ module _ (r : Registers) (a : List ℕ) (c : Code) (m : Memory) where
     -- the answer has not seven words: nothing is changed
     misfit-stays : ThinTurned b (thinly 1 r a m b)
     -- nothing is changed but the answer
-    unchanged : (q : Refusal) → ThinTurned b (thinly (q .number) r (answerOf (report 3 q 0 0)) m b)
+    unchanged : (q : Refusal) → ThinTurned b (thinly (q .number) r (answerOf 7 (report 3 q 0 0 0)) m b)
     -- skiz on 0 with no next slot, number 11: only its word is dropped
-    word-dropped : (q : Refusal) → AtSkiz (machine (stateIn r) c m) q → ThinTurned b (told r (report 3 q 0 0) (dropped (machine (stateIn r) c m)) b)
+    word-dropped : (q : Refusal) → AtSkiz (machine (stateIn r) c m) q → ThinTurned b (told r (report 3 q 0 0 0) (dropped (machine (stateIn r) c m)) b)
 
-  thin-taken : (b : List ℕ) (x : Machine) → length a ≡ 7 → stepOf stand b .outcome ≡ took x → thinCall r a c m b .number ≡ 0
+  thin-taken : (b : List ℕ) (x : Machine) → length a ≡ 7 → stepOf unpriced stand b .outcome ≡ took x → thinCall r a c m b .number ≡ 0
   unfolding thinCall
-  thin-taken b x h e = rw (eq-eqb _ 7 h) (λ d. stepReport (answeredBy (e d)) (stepOf stand b .bytes) .number)
+  thin-taken b x h e = rw (eq-eqb _ 7 h) (λ d. stepReport (answeredBy (e d)) (stepOf unpriced stand b .bytes) 0 .number)
 
-  thin-lost : (b : List ℕ) (q : Refusal) → length a ≡ 7 → stepOf stand b ≡ (record { outcome = lost q (dropped stand); bytes = 0; buffer = b }) → thinCall r a c m b ≡ told r (report 3 q 0 0) (dropped stand) b
+  thin-lost : (b : List ℕ) (q : Refusal) → length a ≡ 7 → stepOf unpriced stand b ≡ (record { outcome = lost q (dropped stand); bytes = 0; buffer = b }) → thinCall r a c m b ≡ told r (report 3 q 0 0 0) (dropped stand) b
   unfolding thinCall
   thin-lost b q h e = rw (eq-eqb _ 7 h) (ap (thinGives r stand) e)
 
-  thin-by : (b : List ℕ) (s : Stepped) → length a ≡ 7 → stepOf stand b ≡ s → M.StepRefused stand b s → ThinTurned b (thinCall r a c m b)
+  thin-by : (b : List ℕ) (s : Stepped) → length a ≡ 7 → stepOf unpriced stand b ≡ s → M.StepRefused stand b s → ThinTurned b (thinCall r a c m b)
   thin-by b _ h e (M.unchanged {r = q}) = subst (ThinTurned b) (sym (thin-kept r a c m b h q (ap (λ (s : Stepped). s .outcome) e))) (unchanged q)
   thin-by b _ h e (M.word-dropped {r = q} k) = subst (ThinTurned b) (sym (thin-lost b q h e)) (word-dropped q k)
 
@@ -257,5 +259,5 @@ module _ (r : Registers) (a : List ℕ) (c : Code) (m : Memory) where
   thin-whole b z = go (eqb (length a) 7) refl
     where
       go : (t : Bool) → eqb (length a) 7 ≡ t → ThinTurned b (thinCall r a c m b)
-      go true h = let l = eqb-true (length a) 7 h in thin-by b (stepOf stand b) l refl (M.step-refused stand b (λ x e. z (thin-taken b x l e)))
+      go true h = let l = eqb-true (length a) 7 h in thin-by b (stepOf unpriced stand b) l refl (M.step-refused unpriced stand b (λ x e. z (thin-taken b x l e)))
       go false h = subst (ThinTurned b) (thin-misfits r a c m b (eqb-false (length a) 7 h)) misfit-stays

@@ -1,4 +1,5 @@
--- open over numbers and slices: the machine's openOf, of a revision of the log, a program digest and so many RAM cells used.
+-- open over numbers and slices: the machine's openOf, of a revision of the log, a program digest and so many RAM cells used, with a
+-- fee table or without, f.
 use mathlib.Core.Bool.{Bool, false}
 use mathlib.Core.List.{List}
 use Prim.Native.Nat.{ℕ}
@@ -9,6 +10,7 @@ use Rattle.choices.specs.Choice.{cond}
 use Rattle.machine.specs.Refusal.{Refusal}
 use Rattle.machine.specs.Machine.{Code, Memory}
 use Rattle.machine.specs.Apply.{Outcome, took, kept, lost}
+use Rattle.machine.specs.FeeTable.{Fees}
 use Rattle.machine.specs.Open.{openOf}
 use Rattle.machine_perform.specs.AnswerView.{did, turned}
 use Rattle.exports_words.specs.Registers.{registersOf}
@@ -21,16 +23,16 @@ openFitsOf w a digest = cond (eqb (length w) 28) (cond (eqb (length a) 7) (eqb (
 
 -- refused: the registers keep their words, and nothing lent is changed
 abbrev pub unopened : List ℕ → Memory → Refusal → Called
-unopened w m r = called (r .number) w (answerOf (openReport (turned r))) m
+unopened w m r = called (r .number) w (answerOf 7 (openReport (turned r))) m
 
 -- open drops no word, so that the last does not come about
 abbrev pub openGives : List ℕ → Memory → Outcome → Called
-openGives w m (took x) = reported (openReport did) (x .state) (x .memory)
+openGives w m (took x) = reported 7 (openReport did) (x .state) (x .memory)
 openGives w m (kept r) = unopened w m r
 openGives w m (lost r x) = unopened w m r
 
-unfoldable pub openCall : List ℕ → List ℕ → ℕ → List ℕ → ℕ → Code → Memory → Called
-openCall w a v digest n c m = cond (openFitsOf w a digest) (openGives w m (openOf v digest c m n)) (misfitted w a m)
+unfoldable pub openCall : Fees → List ℕ → List ℕ → ℕ → List ℕ → ℕ → Code → Memory → Called
+openCall f w a v digest n c m = cond (openFitsOf w a digest) (openGives w m (openOf f v digest c m n)) (misfitted 7 w a m)
 
 -- the registers where open gives this number and this state
 unfoldable pub openedRegisters : ℕ → VMState → List ℕ → List ℕ

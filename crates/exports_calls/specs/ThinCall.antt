@@ -6,6 +6,7 @@ use lib.Dec.{eqb}
 use Rattle.machine.specs.declared.state.VMState.{VMState}
 use Rattle.choices.specs.Choice.{cond}
 use Rattle.machine.specs.Machine.{Code, Memory, Machine, machine}
+use Rattle.machine.specs.FeeTable.{unpriced}
 use Rattle.machine.specs.Step.{Stepped, stepOf}
 use Rattle.machine_perform.specs.AnswerView.{answeredBy, leftBy}
 use Rattle.exports_words.specs.declared.report.Report.{Report}
@@ -68,12 +69,12 @@ thinly n r a m b = record { number = n; registers = r; answer = a; memory = m; b
 
 -- what a report says, and the machine and the call buffer then
 abbrev pub told : Registers → Report → Machine → List ℕ → Thin
-told r p m b = thinly (p .number) (registersIn r (m .state)) (answerOf p) (m .memory) b
+told r p m b = thinly (p .number) (registersIn r (m .state)) (answerOf 7 p) (m .memory) b
 
 -- from a machine m
 abbrev pub thinGives : Registers → Machine → Stepped → Thin
-thinGives r m s = told r (stepReport (answeredBy (s .outcome)) (s .bytes)) (leftBy m (s .outcome)) (s .buffer)
+thinGives r m s = told r (stepReport (answeredBy (s .outcome)) (s .bytes) 0) (leftBy m (s .outcome)) (s .buffer)
 
 -- a is the answer and b the call buffer. An answer that has not seven words gives number 1, and nothing is changed
 unfoldable pub thinCall : Registers → List ℕ → Code → Memory → List ℕ → Thin
-thinCall r a c m b = cond (eqb (length a) 7) (thinGives r (machine (stateIn r) c m) (stepOf (machine (stateIn r) c m) b)) (thinly 1 r a m b)
+thinCall r a c m b = cond (eqb (length a) 7) (thinGives r (machine (stateIn r) c m) (stepOf unpriced (machine (stateIn r) c m) b)) (thinly 1 r a m b)

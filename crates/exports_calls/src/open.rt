@@ -1,6 +1,7 @@
 // open over numbers and slices.
 ghost use mathlib.Core.Path.{_≡_};
 ghost use lib.ListN.{length};
+ghost use Rattle.machine.specs.FeeTable.{feeTable, unpriced, priced};
 ghost use Rattle.machine.specs.Lent.{codeIn, memoryIn, memoryOut};
 ghost use Rattle.exports_words.specs.Calls.{called};
 ghost use Rattle.exports_calls.specs.OpenCall.{openFitsOf, openedRegisters, openCall};
@@ -10,6 +11,7 @@ use exports_words::report::turn_down;
 use exports_words::report::write_answer;
 use machine::state::VMState;
 use machine_open::open::open;
+use machine_open::open::open_with_fees;
 use tip5::words::copy;
 
 // The words that the registers hold do not matter: they are not read.
@@ -67,7 +69,7 @@ pub fn open_call(
 ) -> u64
     ensures { λ r. ⌜ called r (now (registers .exit)) (now (answer .exit))
         (memoryOut «op_stack» origins destinations addresses values output)
-        ≡ openCall (now (registers .entry)) (now (answer .entry)) revision (now (digest .entry)) cells
+        ≡ openCall unpriced (now (registers .entry)) (now (answer .entry)) revision (now (digest .entry)) cells
         (codeIn opcodes arguments public secret digests)
         (memoryIn «op_stack» origins destinations addresses values output) ⌝ }
 {
@@ -95,7 +97,67 @@ pub fn open_call(
         write_answer(answer, report);
         report.number
     } else {
-        turn_down(answer);
+        turn_down(answer, 7);
+        1
+    }
+}
+
+// With a fee table.
+pub fn open_with_fees_call(
+    registers: &mut [u64],
+    answer: &mut [u64],
+    revision: u64,
+    digest: &[u64],
+    cells: u64,
+    opcodes: &[u64],
+    arguments: &[u64],
+    public: &[u64],
+    secret: &[u64],
+    digests: &[u64],
+    op_stack: &mut [u64],
+    origins: &mut [u64],
+    destinations: &mut [u64],
+    addresses: &[u64],
+    values: &[u64],
+    output: &[u64],
+    lowest: &[u64],
+    highest: &[u64],
+    fees: &[u64],
+) -> u64
+    ensures { λ r. ⌜ called r (now (registers .exit)) (now (answer .exit))
+        (memoryOut «op_stack» origins destinations addresses values output)
+        ≡ openCall (priced (feeTable (now (lowest .entry)) (now (highest .entry)) (now (fees .entry)))) (now (registers .entry)) (now (answer .entry)) revision (now (digest .entry)) cells
+        (codeIn opcodes arguments public secret digests)
+        (memoryIn «op_stack» origins destinations addresses values output) ⌝ }
+{
+    if open_fits(registers, answer, digest) {
+        let words = read_digest(digest);
+        let r = open_with_fees(
+            revision,
+            words,
+            cells as usize,
+            opcodes,
+            arguments,
+            public,
+            secret,
+            digests,
+            op_stack,
+            origins,
+            destinations,
+            addresses,
+            values,
+            output,
+            lowest,
+            highest,
+            fees,
+        );
+        let answered = r.answer;
+        let report = open_report(answered);
+        write_opened(registers, report.number, r.state);
+        write_answer(answer, report);
+        report.number
+    } else {
+        turn_down(answer, 7);
         1
     }
 }

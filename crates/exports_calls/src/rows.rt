@@ -1,5 +1,6 @@
 // trace_rows over numbers and slices.
 ghost use mathlib.Core.Path.{_≡_};
+ghost use Rattle.machine.specs.FeeTable.{feeTable, unpriced, priced};
 ghost use Rattle.machine.specs.Lent.{codeIn, memoryIn, memoryOut};
 ghost use Rattle.exports_words.specs.Calls.{called, recorded, tabled};
 ghost use Rattle.exports_calls.specs.RunCall.{rowsCall};
@@ -10,6 +11,7 @@ use exports_words::report::run_report;
 use exports_words::report::turn_down;
 use exports_words::report::write_answer;
 use machine_vm::rows::trace_rows;
+use machine_vm::rows::trace_rows_with_fees;
 
 // The records of the steps are the first bytes of calls, and their rows the first words of rows, each step's behind the last one's.
 pub fn rows_call(
@@ -32,7 +34,7 @@ pub fn rows_call(
 ) -> u64
     ensures { λ r. ⌜ tabled (recorded (called r (now (registers .exit)) (now (answer .exit))
         (memoryOut «op_stack» origins destinations addresses values output)) (now (calls .exit))) (now (rows .exit))
-        ≡ rowsCall budget (now (registers .entry)) (now (answer .entry))
+        ≡ rowsCall unpriced budget (now (registers .entry)) (now (answer .entry))
         (codeIn opcodes arguments public secret digests)
         (memoryIn «op_stack» origins destinations addresses values output) (now (calls .entry)) (now (rows .entry)) ⌝ }
 {
@@ -56,12 +58,73 @@ pub fn rows_call(
             rows,
         );
         let ending = r.ending;
-        let report = run_report(ending, r.count, r.bytes);
+        let report = run_report(ending, r.count, r.bytes, r.fee);
         write_registers(registers, r.state);
         write_answer(answer, report);
         report.number
     } else {
-        turn_down(answer);
+        turn_down(answer, 7);
+        1
+    }
+}
+
+// With a fee table.
+pub fn rows_with_fees_call(
+    registers: &mut [u64],
+    answer: &mut [u64],
+    budget: u64,
+    opcodes: &[u64],
+    arguments: &[u64],
+    public: &[u64],
+    secret: &[u64],
+    digests: &[u64],
+    op_stack: &mut [u64],
+    origins: &mut [u64],
+    destinations: &mut [u64],
+    addresses: &mut [u64],
+    values: &mut [u64],
+    output: &mut [u64],
+    calls: &mut [u8],
+    rows: &mut [u64],
+    lowest: &[u64],
+    highest: &[u64],
+    fees: &[u64],
+) -> u64
+    ensures { λ r. ⌜ tabled (recorded (called r (now (registers .exit)) (now (answer .exit))
+        (memoryOut «op_stack» origins destinations addresses values output)) (now (calls .exit))) (now (rows .exit))
+        ≡ rowsCall (priced (feeTable (now (lowest .entry)) (now (highest .entry)) (now (fees .entry)))) budget (now (registers .entry)) (now (answer .entry))
+        (codeIn opcodes arguments public secret digests)
+        (memoryIn «op_stack» origins destinations addresses values output) (now (calls .entry)) (now (rows .entry)) ⌝ }
+{
+    if fits(registers, answer, 8) {
+        let state = read_registers(registers);
+        let r = trace_rows_with_fees(
+            budget,
+            state,
+            opcodes,
+            arguments,
+            public,
+            secret,
+            digests,
+            op_stack,
+            origins,
+            destinations,
+            addresses,
+            values,
+            output,
+            calls,
+            rows,
+            lowest,
+            highest,
+            fees,
+        );
+        let ending = r.ending;
+        let report = run_report(ending, r.count, r.bytes, r.fee);
+        write_registers(registers, r.state);
+        write_answer(answer, report);
+        report.number
+    } else {
+        turn_down(answer, 8);
         1
     }
 }

@@ -126,7 +126,7 @@ pub fn step_reply(
             calls,
         );
         let answered = r.answer;
-        let report = step_report(answered, r.bytes);
+        let report = step_report(answered, r.bytes, 0);
         write_answer(answer, report);
         let left = registers_in(registers, r.state);
         Reply {

@@ -1,5 +1,5 @@
 -- What fitting slices are, and what is written of a report. Assumes nothing.
-use mathlib.Core.Path.{_≡_, sym, _∙_}
+use mathlib.Core.Path.{_≡_, sym, ap, _∙_}
 use mathlib.Core.Bool.{Bool, true}
 use mathlib.Core.List.{List}
 use Prim.Native.Nat.{ℕ}
@@ -24,5 +24,9 @@ fits-facts w a n e h =
     record { registers = readable-facts w (k .0); answer = eqb-true _ _ (k .1) }
 
 -- what was written, by a report
-pub written : (s : VMState) (m : Memory) {r q : Report} {w a : List ℕ} → r ≡ q → w ≡ registersOf s → a ≡ answerOf r → called (r .number) w a m ≡ reported q s m
-written s m e f g = rw (f, g, e)
+pub written : (k : ℕ) (s : VMState) (m : Memory) {r q : Report} {w a : List ℕ} → r ≡ q → w ≡ registersOf s → a ≡ answerOf k r → called (r .number) w a m ≡ reported k q s m
+written k s m e f g = rw (f, g, e)
+
+-- an answer that was k words long
+pub answered : (p : Report) {n k : ℕ} {a : List ℕ} → n ≡ k → a ≡ answerOf n p → a ≡ answerOf k p
+answered p h e = e ∙ ap (λ (i : ℕ). answerOf i p) h

@@ -45,10 +45,10 @@ tabled c t = record { call = c; table = t }
 unfoldable pub fitsOf : List ℕ → List ℕ → ℕ → Bool
 fitsOf w a n = cond (readableOf w) (eqb (length a) n) false
 
--- they do not fit: number 1, and nothing lent is changed
-abbrev pub misfitted : List ℕ → List ℕ → Memory → Called
-misfitted w a m = called 1 w (saidOf a misfit) m
+-- they do not fit: number 1, and nothing lent is changed; k is how many words the answer is to have
+abbrev pub misfitted : ℕ → List ℕ → List ℕ → Memory → Called
+misfitted k w a m = called 1 w (saidOf k a misfit) m
 
 -- they fit: what a report says, and the registers and the memory then
-abbrev pub reported : Report → VMState → Memory → Called
-reported r s m = called (r .number) (registersOf s) (answerOf r) m
+abbrev pub reported : ℕ → Report → VMState → Memory → Called
+reported k r s m = called (r .number) (registersOf s) (answerOf k r) m

@@ -8,6 +8,7 @@ use Rattle.machine.specs.Machine.{Code, Memory, Machine, code, memory}
 use Rattle.machine.specs.Decide.{decideOf}
 use Rattle.machine.specs.Apply.{Outcome, took, kept, lost}
 use Rattle.machine_log.specs.Logged.{logged}
+use Rattle.machine.specs.FeeTable.{unpriced}
 use Rattle.machine.specs.Open.{openOf}
 use Rattle.machine.specs.Path.{Ending, halted, spent, full, refused, Path, count, unlogged, pathBy, logFrom}
 use Rattle.job.specs.Listing.{outLine, haltedLine, spentLine, refusedLine}
@@ -61,7 +62,7 @@ onOpened budget (lost r x) = notOpened (r .number)
 unfoldable pub jobLines : Job → List ℕ
 jobLines j =
     cond (eqb (j .number) 0)
-    (onOpened (j .budget) (openOf 1 (j .digest) (codeOf j) (memoryOf j) (length (j .addresses))))
+    (onOpened (j .budget) (openOf unpriced 1 (j .digest) (codeOf j) (memoryOf j) (length (j .addresses))))
     (notOpened (j .number))
 
 abbrev pub printedOf : List ℕ → List ℕ

@@ -27,6 +27,7 @@ use Rattle.machine.specs.Apply.{took, lost, dropped}
 use Rattle.machine.specs.PlaceA.{machineA}
 use Rattle.machine.specs.Step.{outcomeBy}
 use Rattle.machine.specs.Path.{Space}
+use Rattle.machine.specs.FeeTable.{Fees}
 use Rattle.machine.specs.Run.{callBy}
 use Rattle.machine.specs.Sound.{Sound}
 use Rattle.machine.proofs.Rows.{Each, gathered, each-decode}
@@ -203,5 +204,5 @@ module _ (m : Machine) (sixteen : length (m .state .sponge .words) ≡ 16) (cloc
   lost-accepted r x e = machine-accepted x (lost-sound decideOf facts (λ m s r e. drops-deep m r e) m r x sound e)
 
   -- run, trace_execution and trace_rows, whatever is lent beside the machine
-  pub call-accepted : (a : ℕ) (s : Space) (n : ℕ) → machineA (callBy decideOf a s n m .left) ≡ 0
-  call-accepted a s n = machine-accepted (callBy decideOf a s n m .left) (call-sound decideOf facts (λ m s r e. drops-deep m r e) a s n m sound)
+  pub call-accepted : (f : Fees) (s : Space) (n : ℕ) → machineA (callBy decideOf f s n m .left) ≡ 0
+  call-accepted f s n = machine-accepted (callBy decideOf f s n m .left) (call-sound decideOf facts (λ m s r e. drops-deep m r e) f s n m sound)

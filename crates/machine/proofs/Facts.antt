@@ -90,6 +90,7 @@ module _ (per : Weights) (m : Machine) (s : Sound m) (here : m .state .pointer <
 -- an effect that is acted: its row, and that the row's instruction does it
 pub record Done (per : Weights) (m : Machine) (e : Effect) : Type 0 where
   pub row : Row
+  pub here : m .state .pointer < length (m .code .opcodes)
   pub is : decode (opcodeOf m) ≡ known row
   pub allowed : argumentFault (row .argument) (argumentOf m) ≡ 0
   pub deep : 16 + shrunkBy (row .change) (argumentOf m) ≤ m .state .depth + grownBy (row .change) (argumentOf m)
@@ -104,7 +105,7 @@ module _ (per : Weights) (m : Machine) (s : Sound m) where
   decided-in h (known r) e =
       acts-unless (ltb (m .state .depth + grownBy (r .change) (argumentOf m)) (16 + shrunkBy (r .change) (argumentOf m))) _
       (λ t. acts-map
-      (λ x k. record { row = r; is = e; allowed = fault-none h r e; deep = ltb-false _ (16 + shrunkBy (r .change) (argumentOf m)) t; does = k })
+      (λ x k. record { row = r; here = h; is = e; allowed = fault-none h r e; deep = ltb-false _ (16 + shrunkBy (r .change) (argumentOf m)) t; does = k })
       (each-decode (RowDoes per m) (opcodeOf m) r (rows per m s h) e (argumentOf m) (fault-none h r e) (words-getD (m .state .pointer) (s .code .arguments))))
 
   decided : Acts (Done per m) (decideOf m)
@@ -119,7 +120,7 @@ pub done : (per : Weights) (m : Machine) → Sound m → (e : Effect) → decide
 done per m s e h = acted (subst (Acts (Done per m)) h (decided per m s))
 
 -- RAM accesses, counted; and words by which the stack grows or shrinks
-abbrev perAccess : Weights
+abbrev pub perAccess : Weights
 perAccess = weights 0 0 0 1 0
 
 abbrev perMove : Weights

@@ -7,6 +7,7 @@ pub mod OpStack
 pub mod Bytes
 pub mod Records
 pub mod Preserved
+pub mod FeeTable
 pub mod Refused
 pub mod PlaceA
 pub mod Seen
@@ -31,5 +32,6 @@ pub mod ProcessorRow
 pub mod Path
 pub mod Run
 pub mod Drops
+pub mod Fee
 pub mod Whole
 pub mod Cancels

@@ -10,15 +10,17 @@ use lib.Seq.{getD-take}
 use lib.Dec.{eqb, ltb, lit<, lit≤}
 use Rattle.field.specs.Base.{p}
 use Rattle.machine.specs.Words.{more, wordsOf}
-use Rattle.machine.specs.Refusal.{plainly}
+use Rattle.machine.specs.Refusal.{Refusal}
 use Rattle.machine.specs.Ram.{Cells, cells, cells1, cells2, cells5}
 use Rattle.machine.specs.Machine.{Code, Memory, Machine, ram}
 use Rattle.machine.specs.Apply.{took, kept}
 use Rattle.machine.specs.PlaceA.{longest, code1, memory1, code2, used2, machine2, code34, unused5, machine5, machineA, openA}
+use Rattle.machine.specs.FeeTable.{Fees, checked}
 use Rattle.machine.specs.Open.{openedStack, opened, openOf}
 use Rattle.machine.specs.Sound.{SoundCode, SoundCells, SoundStack, Sound}
 use Rattle.choices.proofs.Choice.{first-zero, first-nil, above-not, above-nil, differ-not, differ-nil}
 use Rattle.machine.proofs.Words.{words-getD, words-all, words-zeros, zeros-getD, word-nil, word-fine, words-at, words-nil, words-whole, words-test, words-used, zeros-nil, zeros-fine}
+use Rattle.machine.proofs.FeeTable.{checked-number}
 use Rattle.machine.proofs.Refused.{open-accepts, open-refuses}
 
 -- ---- cells
@@ -332,21 +334,26 @@ pub record Opened (v : ℕ) (m : Machine) : Type 0 where
   pub depth : m .state .depth ≡ 16
   pub revision : m .state .revision ≡ v
 
-open-took : (v : ℕ) (g : List ℕ) (c : Code) (m : Memory) (n : ℕ) (x : Machine) → openOf v g c m n ≡ took x → (openA v g c m n ≡ 0) × (opened v g c m n ≡ x)
-open-took v g c m n x e = go (eqb (openA v g c m n) 0) refl
-  where
-    go : (t : Bool) → eqb (openA v g c m n) 0 ≡ t → (openA v g c m n ≡ 0) × (opened v g c m n ≡ x)
-    go true q =
-        let z = eqb-true (openA v g c m n) 0 q in
-        let k : took (opened v g c m n) ≡ took x = sym (open-accepts v g c m n z) ∙ e in
-        (z, cc)
-    go false q =
-        let k : kept (plainly (openA v g c m n)) ≡ took x = sym (open-refuses v g c m n (eqb-false (openA v g c m n) 0 q)) ∙ e in
-        let z : _≡_ {A = ℕ} 0 1 = cc in
-        absurd (omega arith)
+module _ (f : Fees) (v : ℕ) (g : List ℕ) (c : Code) (m : Memory) (n : ℕ) (x : Machine) where
+  -- what is found wrong
+  abbrev wrong : Refusal
+  wrong = checked f (openA v g c m n)
 
-pub open-sound : (v : ℕ) (g : List ℕ) (c : Code) (m : Memory) (n : ℕ) (x : Machine) → openOf v g c m n ≡ took x → Opened v x
-unfolding opened
-open-sound v g c m n x e =
-    let k = open-took v g c m n x e in
-    rw (← k .1) (record { sound = opened-sound v g c m n (k .0); clock = refl; depth = refl; revision = refl })
+  open-took : openOf f v g c m n ≡ took x → (openA v g c m n ≡ 0) × (opened v g c m n ≡ x)
+  open-took e = go (eqb (wrong .number) 0) refl
+    where
+      go : (t : Bool) → eqb (wrong .number) 0 ≡ t → (openA v g c m n ≡ 0) × (opened v g c m n ≡ x)
+      go true q =
+          let z = eqb-true (wrong .number) 0 q in
+          let k : took (opened v g c m n) ≡ took x = sym (open-accepts f v g c m n z) ∙ e in
+          (checked-number f (openA v g c m n) z, cc)
+      go false q =
+          let k : kept wrong ≡ took x = sym (open-refuses f v g c m n (eqb-false (wrong .number) 0 q)) ∙ e in
+          let z : _≡_ {A = ℕ} 0 1 = cc in
+          absurd (omega arith)
+
+  pub open-sound : openOf f v g c m n ≡ took x → Opened v x
+  unfolding opened
+  open-sound e =
+      let k = open-took e in
+      rw (← k .1) (record { sound = opened-sound v g c m n (k .0); clock = refl; depth = refl; revision = refl })

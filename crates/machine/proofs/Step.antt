@@ -14,6 +14,7 @@ use Rattle.machine.specs.Effect.{Effect, Decision, acts, refuses, drops}
 use Rattle.machine.specs.Apply.{performed, dropped, limitsOf, Outcome, took, kept, lost, settled}
 use Rattle.machine.specs.Records.{logBytes}
 use Rattle.machine.specs.PlaceA.{stepA}
+use Rattle.machine.specs.FeeTable.{Fees, checked}
 use Rattle.machine.specs.Step.{Stepped, recordsIn, steppedBy, outcomeBy, stepBy}
 use Rattle.machine.specs.Sound.{Sound, Facts}
 use Rattle.machine.proofs.Preserved.{performed-sound, performed-revision}
@@ -72,13 +73,13 @@ module _ (decide : Machine → Decision) where
   stepped-outcome b log (kept r) = refl
   stepped-outcome b log (lost r x) = refl
 
-  pub step-outcome : (m : Machine) (b : List ℕ) → stepBy decide m b .outcome ≡ cond (eqb (stepA m b) 0) (outcomeBy decide m) (kept (plainly (stepA m b)))
+  pub step-outcome : (f : Fees) (m : Machine) (b : List ℕ) → stepBy decide f m b .outcome ≡ cond (eqb (checked f (stepA m b) .number) 0) (outcomeBy decide m) (kept (checked f (stepA m b)))
   unfolding stepBy
-  step-outcome m b = go (eqb (stepA m b) 0)
+  step-outcome f m b = go (eqb (checked f (stepA m b) .number) 0)
     where
       go : (t : Bool) →
-          cond t (steppedBy b (logBytes (m .state .revision) (recordsIn m (decide m))) (outcomeBy decide m)) (record { outcome = kept (plainly (stepA m b)); bytes = 0; buffer = b }) .outcome
-          ≡ cond t (outcomeBy decide m) (kept (plainly (stepA m b)))
+          cond t (steppedBy b (logBytes (m .state .revision) (recordsIn m (decide m))) (outcomeBy decide m)) (record { outcome = kept (checked f (stepA m b)); bytes = 0; buffer = b }) .outcome
+          ≡ cond t (outcomeBy decide m) (kept (checked f (stepA m b)))
       go true = stepped-outcome b (logBytes (m .state .revision) (recordsIn m (decide m))) (outcomeBy decide m)
       go false = refl
 
@@ -87,40 +88,40 @@ module _ (decide : Machine → Decision) where
     all-kept : {s : Stepped} → s .bytes ≡ 0 → s .buffer ≡ b → Left b s
     written : {s : Stepped} (x : Machine) → s .outcome ≡ took x → Left b s
 
-  step-left : (m : Machine) (b : List ℕ) → Left b (stepBy decide m b)
+  step-left : (f : Fees) (m : Machine) (b : List ℕ) → Left b (stepBy decide f m b)
   unfolding stepBy
-  step-left m b = go (eqb (stepA m b) 0)
+  step-left f m b = go (eqb (checked f (stepA m b) .number) 0)
     where
       by : (log : List ℕ) (o : Outcome) → Left b (steppedBy b log o)
       by log (took x) = written x refl
       by log (kept r) = all-kept refl refl
       by log (lost r x) = all-kept refl refl
 
-      go : (t : Bool) → Left b (cond t (steppedBy b (logBytes (m .state .revision) (recordsIn m (decide m))) (outcomeBy decide m)) (record { outcome = kept (plainly (stepA m b)); bytes = 0; buffer = b }))
+      go : (t : Bool) → Left b (cond t (steppedBy b (logBytes (m .state .revision) (recordsIn m (decide m))) (outcomeBy decide m)) (record { outcome = kept (checked f (stepA m b)); bytes = 0; buffer = b }))
       go true = by (logBytes (m .state .revision) (recordsIn m (decide m))) (outcomeBy decide m)
       go false = all-kept refl refl
 
   -- a refused step writes no byte. That it leaves the machine is by its outcome: kept has none, and lost has the one with the
   -- word dropped
-  pub refused-buffer : (m : Machine) (b : List ℕ) (r : Refusal) → stepBy decide m b .outcome ≡ kept r → (stepBy decide m b .bytes ≡ 0) × (stepBy decide m b .buffer ≡ b)
-  refused-buffer m b r h = go (stepBy decide m b) h (step-left m b)
+  pub refused-buffer : (f : Fees) (m : Machine) (b : List ℕ) (r : Refusal) → stepBy decide f m b .outcome ≡ kept r → (stepBy decide f m b .bytes ≡ 0) × (stepBy decide f m b .buffer ≡ b)
+  refused-buffer f m b r h = go (stepBy decide f m b) h (step-left f m b)
     where
       go : (s : Stepped) → s .outcome ≡ kept r → Left b s → (s .bytes ≡ 0) × (s .buffer ≡ b)
       go s e (all-kept x y) = (x, y)
       go s e (written x k) = let z : _≡_ {A = ℕ} 0 1 = cc in absurd (omega arith)
 
-  pub lost-buffer : (m : Machine) (b : List ℕ) (r : Refusal) (x : Machine) → stepBy decide m b .outcome ≡ lost r x → (stepBy decide m b .bytes ≡ 0) × (stepBy decide m b .buffer ≡ b)
-  lost-buffer m b r x h = go (stepBy decide m b) h (step-left m b)
+  pub lost-buffer : (f : Fees) (m : Machine) (b : List ℕ) (r : Refusal) (x : Machine) → stepBy decide f m b .outcome ≡ lost r x → (stepBy decide f m b .bytes ≡ 0) × (stepBy decide f m b .buffer ≡ b)
+  lost-buffer f m b r x h = go (stepBy decide f m b) h (step-left f m b)
     where
       go : (s : Stepped) → s .outcome ≡ lost r x → Left b s → (s .bytes ≡ 0) × (s .buffer ≡ b)
       go s e (all-kept y z) = (y, z)
       go s e (written y k) = let z : _≡_ {A = ℕ} 0 1 = cc in absurd (omega arith)
 
   -- a step that place A accepts and that succeeds leaves its records at the buffer's start
-  pub step-records : (m : Machine) (b : List ℕ) (x : Machine) → stepA m b ≡ 0 → outcomeBy decide m ≡ took x →
-      stepBy decide m b ≡ (record { outcome = took x; bytes = length (logBytes (m .state .revision) (recordsIn m (decide m))); buffer = logBytes (m .state .revision) (recordsIn m (decide m)) ++ drop (length (logBytes (m .state .revision) (recordsIn m (decide m)))) b })
+  pub step-records : (f : Fees) (m : Machine) (b : List ℕ) (x : Machine) → checked f (stepA m b) .number ≡ 0 → outcomeBy decide m ≡ took x →
+      stepBy decide f m b ≡ (record { outcome = took x; bytes = length (logBytes (m .state .revision) (recordsIn m (decide m))); buffer = logBytes (m .state .revision) (recordsIn m (decide m)) ++ drop (length (logBytes (m .state .revision) (recordsIn m (decide m)))) b })
   unfolding stepBy
-  step-records m b x a h = rw (eq-eqb (stepA m b) 0 a, h)
+  step-records f m b x a h = rw (eq-eqb (checked f (stepA m b) .number) 0 a, h)
 
   -- ---- sound machines
 

@@ -164,6 +164,10 @@ unfoldable pub decode : ℕ → Decoded
 unfolding table
 decode op = decodeIn table op
 
+abbrev pub knownIn : Decoded → Bool
+knownIn (known r) = true
+knownIn unknown = false
+
 -- an instruction with an argument takes two slots
 abbrev pub slotsOf : Argument → ℕ
 slotsOf nothing = 1

@@ -21,6 +21,8 @@ pub mod Apply
 pub mod Bytes
 pub mod Records
 pub mod PlaceA
+pub mod FeeTable
+pub mod Fee
 pub mod Open
 pub mod Step
 pub mod Path

@@ -7,10 +7,10 @@ use lib.Dec.{eqb}
 use Rattle.tip5.specs.declared.sponge.Sponge.{Sponge}
 use Rattle.machine.specs.declared.state.VMState.{VMState}
 use Rattle.choices.specs.Choice.{cond}
-use Rattle.machine.specs.Refusal.{plainly}
 use Rattle.machine.specs.Machine.{Code, Memory, Machine, machine}
 use Rattle.machine.specs.Apply.{Outcome, took, kept}
 use Rattle.machine.specs.PlaceA.{openA}
+use Rattle.machine.specs.FeeTable.{Fees, checked}
 
 -- no sponge, and its words 0
 abbrev pub noSponge : Sponge
@@ -47,6 +47,6 @@ opened v digest c m n =
       output = m .output;
     })
 
--- a refused open changes nothing that is lent
-unfoldable pub openOf : ℕ → List ℕ → Code → Memory → ℕ → Outcome
-openOf v digest c m n = cond (eqb (openA v digest c m n) 0) (took (opened v digest c m n)) (kept (plainly (openA v digest c m n)))
+-- a refused open changes nothing that is lent. A fee table is looked at and not kept
+unfoldable pub openOf : Fees → ℕ → List ℕ → Code → Memory → ℕ → Outcome
+openOf f v digest c m n = let a = checked f (openA v digest c m n) in cond (eqb (a .number) 0) (took (opened v digest c m n)) (kept a)

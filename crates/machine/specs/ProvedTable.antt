@@ -14,6 +14,7 @@ use Rattle.machine.specs.Hashing.{fromTop, reversed}
 use Rattle.machine.specs.Decide.{decideOf}
 use Rattle.machine.specs.Apply.{Outcome, took, kept, lost}
 use Rattle.machine.specs.Open.{noSponge}
+use Rattle.machine.specs.FeeTable.{unpriced}
 use Rattle.machine.specs.Step.{stepOf}
 
 -- what comes of it
@@ -74,7 +75,7 @@ answered n m (lost r x) = turnsDown r (x .state .depth)
 
 -- the step that a machine takes, of which the top n words are looked at
 unfoldable pub stepping : ℕ → Machine → Answer
-stepping n m = answered n m (stepOf m (replicate 1024 0) .outcome)
+stepping n m = answered n m (stepOf unpriced m (replicate 1024 0) .outcome)
 
 pub record Line : Type 0 where
   pub seen : Answer

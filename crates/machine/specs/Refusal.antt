@@ -70,6 +70,7 @@ spongeNotInitialized = plainly 23
 -- ---- the code's names
 
 unfoldable pub refusalOf : InstructionError → Refusal
+refusalOf (E.Checked n w) = refusal n w 0 0
 refusalOf (E.Numbered n) = plainly n
 refusalOf E.InstructionPointerOverflow = instructionPointerOverflow
 refusalOf (E.FailedU32Conversion w) = failedU32Conversion w

@@ -4,13 +4,13 @@ use mathlib.Core.List.{List, [], _++_}
 use lib.ListN.{length, drop}
 use lib.Dec.{eqb}
 use Rattle.choices.specs.Choice.{cond}
-use Rattle.machine.specs.Refusal.{plainly}
 use Rattle.machine.specs.Machine.{Machine}
 use Rattle.machine.specs.Effect.{Decision, acts, refuses, drops}
 use Rattle.machine.specs.Decide.{decideOf}
 use Rattle.machine.specs.Apply.{Outcome, took, kept, lost, settled}
 use Rattle.machine.specs.Records.{Record, recordsOf, logBytes}
 use Rattle.machine.specs.PlaceA.{stepA}
+use Rattle.machine.specs.FeeTable.{Fees, checked}
 
 -- what step gives: the outcome, and the call buffer, whose first bytes are the step's records
 pub record Stepped : Type 0 where
@@ -34,12 +34,14 @@ module _ (decide : Machine → Decision) where
   unfoldable pub outcomeBy : Machine → Outcome
   outcomeBy m = settled m (decide m)
 
-  unfoldable pub stepBy : Machine → List ℕ → Stepped
-  stepBy m b =
-      cond (eqb (stepA m b) 0)
+  -- with a fee table or without; rowNamed is the row that it names
+  unfoldable pub stepBy : Fees → Machine → List ℕ → Stepped
+  stepBy f m b =
+      let a = checked f (stepA m b) in
+      cond (eqb (a .number) 0)
       (steppedBy b (logBytes (m .state .revision) (recordsIn m (decide m))) (outcomeBy m))
-      (record { outcome = kept (plainly (stepA m b)); bytes = 0; buffer = b })
+      (record { outcome = kept a; bytes = 0; buffer = b })
 
 -- of the real instruction set
-abbrev pub stepOf : Machine → List ℕ → Stepped
+abbrev pub stepOf : Fees → Machine → List ℕ → Stepped
 stepOf = stepBy decideOf

@@ -8,8 +8,8 @@ use native.Mathlib.Omega.{arith}
 use borrow.Author.Tests.{eqb-true, lt-ltb, le-ltb, ne-eqb, ltb-false}
 use lib.Dec.{T, eqb, ltb, lit<, leb→le}
 use Rattle.choices.specs.Choice.{cond}
-use Rattle.machine.specs.Instruction.{Argument, nothing, words, place-of-stack, any, Row, Decoded, known, unknown, decodeIn, argumentFault, Change, grows, shrinks, grows-by-argument, shrinks-by-argument, grownBy, shrunkBy, table, decode, sizeIn, slotsOf}
-use Rattle.machine_isa.specs.InstructionView.{knownIn, kindOf, kindIn, changeOf, changeIn, grownIn, shrunkIn}
+use Rattle.machine.specs.Instruction.{Argument, nothing, words, place-of-stack, any, Row, Decoded, known, unknown, knownIn, decodeIn, argumentFault, Change, grows, shrinks, grows-by-argument, shrinks-by-argument, grownBy, shrunkBy, table, decode, sizeIn, slotsOf}
+use Rattle.machine_isa.specs.InstructionView.{kindOf, kindIn, changeOf, changeIn, grownIn, shrunkIn}
 use Rattle.machine.specs.PlaceA.{unknown3, argument4}
 
 -- x is one of an arm's numbers

@@ -1,11 +1,6 @@
 -- What the code says of an opcode besides the definitions of Instruction.
 use Prim.Native.Nat.{ℕ, _+_}
-use mathlib.Core.Bool.{Bool, true, false}
 use Rattle.machine.specs.Instruction.{Argument, nothing, words, place-of-stack, any, Change, grows, shrinks, grows-by-argument, shrinks-by-argument, Decoded, known, unknown, grownBy, shrunkBy}
-
-abbrev pub knownIn : Decoded → Bool
-knownIn (known r) = true
-knownIn unknown = false
 
 -- the number that the code has for what argument an instruction takes
 abbrev pub kindOf : Argument → ℕ

@@ -1,8 +1,8 @@
 // The instructions' table: size, argument and depth change of each opcode, and the most bytes that a step writes.
 ghost use mathlib.Core.Path.{_≡_};
 ghost use Rattle.machine.specs.Lengths.{mostBytes};
-ghost use Rattle.machine.specs.Instruction.{decode, sizeOf};
-ghost use Rattle.machine_isa.specs.InstructionView.{knownIn, kindIn, changeIn, grownIn, shrunkIn};
+ghost use Rattle.machine.specs.Instruction.{decode, knownIn, sizeOf};
+ghost use Rattle.machine_isa.specs.InstructionView.{kindIn, changeIn, grownIn, shrunkIn};
 ghost use Rattle.machine.specs.PlaceA.{unknown3, argument4};
 
 // What argument it takes: 0 none, 1 a number of words, 2 a stack place, 3 any word; 4 where there is no such instruction.

@@ -1,5 +1,6 @@
--- What open makes of the stacks, and its answers where place A accepts and where it refuses. Assumes nothing.
+-- What open makes of the stacks, and its answers where place A and the fee table accept and where they refuse. Assumes nothing.
 use mathlib.Core.Path.{_≡_, refl, sym, ap, _∙_}
+use mathlib.Core.Bool.{Bool}
 use mathlib.Core.List.{List, [], _∷_, append-nil}
 use Prim.Native.Nat.{ℕ, _+_, _-_, _≤_}
 use native.Mathlib.Omega.{arith}
@@ -8,14 +9,18 @@ use lib.Seq.{take-all}
 use Rattle.machine.specs.declared.refusal.InstructionError.the-variants as I
 use Rattle.machine.specs.declared.state.VMState.{VMState}
 use Rattle.machine_isa.specs.Copied.{copied}
-use Rattle.machine.specs.Refusal.{plainly}
+use Rattle.machine.specs.Refusal.{Refusal}
 use Rattle.machine.specs.Machine.{Code, Memory, memory}
 use Rattle.machine.specs.Apply.{appliedStack}
 use Rattle.machine.specs.PlaceA.{memory1, openA}
+use Rattle.machine.specs.FeeTable.{FeeTable, checked}
 use Rattle.machine.specs.Open.{openedStack, opened}
 use Rattle.choices.proofs.Choice.{first-nil, above-nil}
 use Rattle.machine_isa.proofs.Copies.{fill-end}
-use Rattle.machine.proofs.Refused.{numbered-is, open-accepts, open-refuses}
+use Rattle.machine.proofs.FeeTable.{checked-number}
+use Rattle.machine.proofs.Refused.{checked-is, open-accepts, open-refuses}
+use Rattle.machine_fees.specs.declared.fee_table.Fault.{Fault}
+use Rattle.machine_fees.specs.FeeView.{refusalIn, feesIn, FeesChecked}
 use Rattle.machine_perform.specs.declared.answer.Answer.the-variants.{Took, Refused}
 use Rattle.machine_perform.specs.AnswerView.{turned}
 use Rattle.machine_open.specs.OpenView.{registersOf, noState, Opens}
@@ -45,16 +50,27 @@ wiped s {r} h =
 
 -- ---- the answers
 
-module _ (v : ℕ) (g : List ℕ) (c : Code) (m : Memory) (k : ℕ) {n : ℕ} (h : n ≡ openA v g c m k) where
-  pub open-deep : n ≡ 0 → 16 ≤ length (m .opStack)
+-- what place A and the fee table, where there is one, say
+module _ (v : ℕ) (g : List ℕ) (c : Code) (m : Memory) (k : ℕ) {p : Bool} {t : FeeTable} {n : ℕ} {x : Fault} {qs : List ℕ} (h : n ≡ openA v g c m k) (w : FeesChecked p t n x qs) where
+  wrong-is : refusalIn x ≡ checked (feesIn p t) (openA v g c m k)
+  wrong-is = w .fault ∙ ap (checked (feesIn p t)) h
+
+  right : x .number ≡ 0 → checked (feesIn p t) (openA v g c m k) .number ≡ 0
+  right z = ap (λ (r : Refusal). r .number) (sym wrong-is) ∙ z
+
+  pub open-deep : x .number ≡ 0 → 16 ≤ length (m .opStack)
   unfolding openA memory1
-  open-deep z = above-nil _ _ 1 (omega arith) (first-nil _ _ (first-nil _ _ (first-nil _ _ (first-nil _ _ (sym h ∙ z) .0) .1) .1) .0)
+  open-deep z =
+      let a = checked-number (feesIn p t) (openA v g c m k) (right z) in
+      above-nil _ _ 1 (omega arith) (first-nil _ _ (first-nil _ _ (first-nil _ _ (first-nil _ _ a .0) .1) .1) .0)
 
-  pub open-took : n ≡ 0 → {s : VMState} {stack origins destinations : List ℕ} → s ≡ registersOf 16 k v → stack ≡ openedStack g (m .opStack) →
+  pub open-took : x .number ≡ 0 → {s : VMState} {stack origins destinations : List ℕ} → s ≡ registersOf 16 k v → stack ≡ openedStack g (m .opStack) →
       origins ≡ replicate (length (m .origins)) 0 → destinations ≡ replicate (length (m .destinations)) 0 →
-      Opens v g c m k (record { answer = Took; state = s }) (memory stack origins destinations (m .addresses) (m .values) (m .output))
+      Opens (feesIn p t) v g c m k (record { answer = Took; state = s }) (memory stack origins destinations (m .addresses) (m .values) (m .output))
   unfolding opened
-  open-took z e f o d = record { is = rw (open-accepts v g c m k (sym h ∙ z)) (record { answer = refl; left = rw (e, f, o, d) }) }
+  open-took z e f o d = record { is = rw (open-accepts (feesIn p t) v g c m k (right z)) (record { answer = refl; left = rw (e, f, o, d) }) }
 
-  pub open-kept : (n ≡ 0 → ⊥) → {s : VMState} → s ≡ noState → Opens v g c m k (record { answer = Refused (I.Numbered n); state = s }) m
-  open-kept z e = record { is = rw (open-refuses v g c m k (λ y. z (h ∙ y))) (record { answer = ap turned (numbered-is n ∙ ap plainly h); left = rw e }) }
+  pub open-kept : (x .number ≡ 0 → ⊥) → {s : VMState} → s ≡ noState → Opens (feesIn p t) v g c m k (record { answer = Refused (I.Checked (x .number) (x .opcode)); state = s }) m
+  open-kept z e =
+      let y = open-refuses (feesIn p t) v g c m k (λ y. z (ap (λ (r : Refusal). r .number) wrong-is ∙ y)) in
+      record { is = rw y (record { answer = ap turned (checked-is (x .number) (x .opcode) ∙ wrong-is); left = rw e }) }

@@ -4,6 +4,7 @@ use mathlib.Core.Bool.{false}
 use mathlib.Core.List.{List}
 use Rattle.machine.specs.declared.state.VMState.{VMState}
 use Rattle.machine.specs.Machine.{Code, Memory, machine}
+use Rattle.machine.specs.FeeTable.{Fees}
 use Rattle.machine.specs.Open.{noSponge, openOf}
 use Rattle.machine_perform.specs.declared.answer.Moved.{Moved}
 use Rattle.machine_perform.specs.AnswerView.{Gives}
@@ -31,5 +32,5 @@ abbrev pub noState : VMState
 noState = registersOf 0 0 0
 
 -- the answer, the registers and everything lent are those of openOf
-pub record Opens (v : ℕ) (digest : List ℕ) (c : Code) (m : Memory) (n : ℕ) (r : Moved) (after : Memory) : Type 0 where
-  pub is : Gives (machine noState c m) (openOf v digest c m n) (r .answer) (machine (r .state) c after)
+pub record Opens (f : Fees) (v : ℕ) (digest : List ℕ) (c : Code) (m : Memory) (n : ℕ) (r : Moved) (after : Memory) : Type 0 where
+  pub is : Gives (machine noState c m) (openOf f v digest c m n) (r .answer) (machine (r .state) c after)

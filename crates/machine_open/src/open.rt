@@ -1,12 +1,16 @@
-// open: place A, then the machine before its first step.
+// open: place A, and the fee table where one is handed in, then the machine before its first step.
 ghost use mathlib.Core.Path.{_≡_};
+ghost use mathlib.Core.Bool.{true};
 ghost use Prim.Native.Nat.{_≤_};
 ghost use lib.ListN.{length, replicate};
 ghost use Rattle.machine.specs.Lent.{codeIn, memoryIn, memoryOut};
+ghost use Rattle.machine.specs.FeeTable.{feeTable, unpriced, priced};
 ghost use Rattle.machine.specs.Open.{openedStack};
+ghost use Rattle.machine_fees.specs.FeeView.{Priceable, feesIn};
 ghost use Rattle.machine_open.specs.OpenView.{registersOf, Opens};
 use machine::refusal::InstructionError;
 use machine::state::VMState;
+use machine_fees::fee_table::check_fees;
 use machine_isa::op_stack::apply;
 use machine_isa::op_stack::clear;
 use machine_perform::answer::Answer;
@@ -73,8 +77,9 @@ fn wipe(s: &mut [u64])
     clear(s, 0, n);
 }
 
-// With a log of the revision chosen. RAM and output are looked at and stay. Refused, nothing lent is changed, and the state is zeros.
-pub fn open(
+// With a table or without; an opening only looks at it.
+fn checked(
+    pricing: bool,
     revision: u64,
     digest: [u64; 5],
     cells: usize,
@@ -89,8 +94,13 @@ pub fn open(
     addresses: &[u64],
     values: &[u64],
     output: &[u64],
+    lowest: &[u64],
+    highest: &[u64],
+    fees: &[u64],
+    prices: &mut [u64],
 ) -> Moved
-    ensures { λ r. ⌜ Opens revision digest (codeIn opcodes arguments public secret digests)
+    requires { ⌜ (pricing ≡ true → Priceable (now prices)) ⌝ }
+    ensures { λ r. ⌜ Opens (feesIn pricing (feeTable (now (lowest .entry)) (now (highest .entry)) (now (fees .entry)))) revision digest (codeIn opcodes arguments public secret digests)
         (memoryIn «op_stack» origins destinations addresses values output)
         cells r (memoryOut «op_stack» origins destinations addresses values output) ⌝ }
 {
@@ -110,7 +120,8 @@ pub fn open(
         output,
         cells,
     );
-    if n == 0 {
+    let fault = check_fees(pricing, n, lowest, highest, fees, prices);
+    if fault.number == 0 {
         open_stack(op_stack, digest);
         wipe(origins);
         wipe(destinations);
@@ -120,8 +131,102 @@ pub fn open(
         }
     } else {
         Moved {
-            answer: Answer::Refused(InstructionError::Numbered(n)),
+            answer: Answer::Refused(InstructionError::Checked(fault.number, fault.opcode)),
             state: registers(0, 0, 0),
         }
     }
+}
+
+// With a log of the revision chosen. RAM and output are looked at and stay. Refused, nothing lent is changed, and the state is zeros.
+pub fn open(
+    revision: u64,
+    digest: [u64; 5],
+    cells: usize,
+    opcodes: &[u64],
+    arguments: &[u64],
+    public: &[u64],
+    secret: &[u64],
+    digests: &[u64],
+    op_stack: &mut [u64],
+    origins: &mut [u64],
+    destinations: &mut [u64],
+    addresses: &[u64],
+    values: &[u64],
+    output: &[u64],
+) -> Moved
+    ensures { λ r. ⌜ Opens unpriced revision digest (codeIn opcodes arguments public secret digests)
+        (memoryIn «op_stack» origins destinations addresses values output)
+        cells r (memoryOut «op_stack» origins destinations addresses values output) ⌝ }
+{
+    let no_fees = [0u64; 1];
+    let mut no_prices = [0u64; 1];
+    checked(
+        false,
+        revision,
+        digest,
+        cells,
+        opcodes,
+        arguments,
+        public,
+        secret,
+        digests,
+        op_stack,
+        origins,
+        destinations,
+        addresses,
+        values,
+        output,
+        &no_fees,
+        &no_fees,
+        &no_fees,
+        &mut no_prices,
+    )
+}
+
+// With a fee table, which is looked at last of all and not kept.
+pub fn open_with_fees(
+    revision: u64,
+    digest: [u64; 5],
+    cells: usize,
+    opcodes: &[u64],
+    arguments: &[u64],
+    public: &[u64],
+    secret: &[u64],
+    digests: &[u64],
+    op_stack: &mut [u64],
+    origins: &mut [u64],
+    destinations: &mut [u64],
+    addresses: &[u64],
+    values: &[u64],
+    output: &[u64],
+    lowest: &[u64],
+    highest: &[u64],
+    fees: &[u64],
+) -> Moved
+    ensures { λ r. ⌜ Opens (priced (feeTable (now (lowest .entry)) (now (highest .entry)) (now (fees .entry)))) revision digest (codeIn opcodes arguments public secret digests)
+        (memoryIn «op_stack» origins destinations addresses values output)
+        cells r (memoryOut «op_stack» origins destinations addresses values output) ⌝ }
+{
+    let mut prices = [0u64; 128];
+    checked(
+        true,
+        revision,
+        digest,
+        cells,
+        opcodes,
+        arguments,
+        public,
+        secret,
+        digests,
+        op_stack,
+        origins,
+        destinations,
+        addresses,
+        values,
+        output,
+        lowest,
+        highest,
+        fees,
+        &mut prices,
+    )
 }

@@ -11,8 +11,7 @@ use lib.Dec.{eqb}
 use Rattle.field.specs.Base.{p}
 use Rattle.choices.specs.Choice.{firstOf, aboveOf}
 use Rattle.machine.specs.Words.{wordOf2, wordsOf, zerosFrom}
-use Rattle.machine.specs.Instruction.{Decoded, known, unknown, decode}
-use Rattle.machine_isa.specs.InstructionView.{knownIn}
+use Rattle.machine.specs.Instruction.{Decoded, known, unknown, knownIn, decode}
 use Rattle.machine.specs.Machine.{Code, Memory, code}
 use Rattle.machine.specs.PlaceA.{code1, memory1, unknown3, argument4, opcodes3, arguments4, code34}
 use Rattle.choices.proofs.Choice.{first-zero, first-left, first-nil, above-not, above-is, differ-nil}

@@ -26,6 +26,7 @@ pub fn numbered(error: InstructionError) -> Refusal
     ensures { λ r. ⌜ refusalIn r ≡ refusalOf error ⌝ }
 {
     match error {
+        InstructionError::Checked(n, w) => carry(n, w, 0, 0),
         InstructionError::Numbered(n) => carry(n, 0, 0, 0),
         InstructionError::InstructionPointerOverflow => carry(11, 0, 0, 0),
         InstructionError::FailedU32Conversion(w) => carry(13, w, 0, 0),

@@ -1,16 +1,17 @@
 -- Steps behind place A, with or without their records in a lent log and their rows in a lent table: what the code of run, trace_execution and trace_rows
 -- share.
-use Prim.Native.Nat.{ℕ, _+_, _≤_}
+use Prim.Native.Nat.{ℕ, _+_, _≤_, _<_}
 use mathlib.Core.Path.{_≡_}
 use mathlib.Core.Bool.{Bool, true, false}
 use mathlib.Core.List.{List, []}
-use lib.ListN.{length}
+use lib.ListN.{length, getD}
 use Rattle.choices.specs.Choice.{cond}
 use Rattle.machine.specs.Machine.{Memory, Machine, machine}
 use Rattle.machine.specs.Decide.{decideOf}
 use Rattle.machine.specs.Apply.{Outcome, took, kept, lost}
 use Rattle.machine.specs.Records.{logBytes}
 use Rattle.machine.specs.Step.{outcomeBy}
+use Rattle.machine.specs.Fee.{feeFrom}
 use Rattle.machine.specs.Path.{Left, unlent, left-of, lacks, Space, space, stepLog, pathBy, logFrom}
 use Rattle.machine.specs.Lengths.{longest, mostBytes, rowWords}
 use Rattle.machine.specs.ProcessorRow.{rowOf, rowsFrom}
@@ -23,7 +24,20 @@ use Rattle.machine_steps.specs.declared.answer.Ending.the-variants.{Full
 use Rattle.machine_steps.specs.declared.answer.Ran.{Ran}
 use Rattle.machine_steps.specs.RanView.{RanOn}
 
--- t says whether records are asked for, and u whether rows are
+-- t says whether records are asked for, u whether rows are, and f whether prices are
+
+-- what a step with opcode o costs
+abbrev pub priceBy : Bool → List ℕ → ℕ → ℕ
+priceBy f prices o = cond f (getD prices o 0) 0
+
+-- a slot whose opcode has one
+pub record PricedAt (f : Bool) (prices opcodes : List ℕ) (pointer : ℕ) : Type 0 where
+  pub there : f ≡ true → (pointer < length opcodes) × (getD opcodes pointer 0 < length prices)
+
+-- a price for each opcode, of 32 bits, where they are asked for
+pub record Pricing (f : Bool) (prices : List ℕ) : Type 0 where
+  pub all : f ≡ true → 128 ≤ length prices
+  pub narrow : (o : ℕ) → priceBy f prices o ≤ 4294967295
 
 abbrev pub leftOf : Bool → ℕ → Left
 leftOf t n = cond t (left-of n) unlent
@@ -74,13 +88,14 @@ pub record AdvancedAt (t : Bool) (m : Machine) (b : List ℕ) (at : ℕ) (r : St
 
 -- ---- all of them
 
--- a sound machine, and a log and a table that are not too long
-pub record StandingIn (m : Machine) (b w : List ℕ) : Type 0 where
+-- a sound machine, a log and a table that are not too long, and prices where they are asked for
+pub record StandingIn (f : Bool) (m : Machine) (b w prices : List ℕ) : Type 0 where
   pub sound : Sound m
   pub few : length b ≤ longest
   pub fewRows : length w ≤ longest
+  pub pricing : Pricing f prices
 
-abbrev pub StepsOn : Bool → Bool → ℕ → Machine → List ℕ → List ℕ → Ran → Memory → List ℕ → List ℕ → Type 0
-StepsOn t u budget m b w r n b2 w2 =
+abbrev pub StepsOn : Bool → Bool → Bool → ℕ → Machine → List ℕ → List ℕ → List ℕ → Ran → Memory → List ℕ → List ℕ → Type 0
+StepsOn t u f budget m b w prices r n b2 w2 =
     let p = pathBy decideOf (spaceOf t u (length b) (length w)) budget m in
-    RanOn p (logOf t m (p .machines)) (rowsOf u m (p .machines)) (m .code) b w r n b2 w2
+    RanOn p (feeFrom (priceBy f prices) m (p .machines)) (logOf t m (p .machines)) (rowsOf u m (p .machines)) (m .code) b w r n b2 w2

@@ -11,11 +11,12 @@ pub enum Ending {
     Refused(InstructionError),
 }
 
-// How many steps succeeded, how it ended, the registers then, and how many bytes of the log are written, by run none. Of trace_rows as many rows are
-// written as steps succeeded.
+// How many steps succeeded, how it ended, the registers then, how many bytes of the log are written, by run none, and what the steps cost,
+// nothing without a fee table. Of trace_rows as many rows are written as steps succeeded.
 pub struct Ran {
     pub count: u64,
     pub ending: Ending,
     pub state: VMState,
     pub bytes: usize,
+    pub fee: u64,
 }

@@ -1,12 +1,15 @@
-// The steps of run, of trace_execution and of trace_rows: up to a budget, with their records in a lent log and their rows in a lent table where they are
-// asked for.
+// The steps of run, of trace_execution and of trace_rows: up to a budget, with their records in a lent log, their rows in a lent table and their prices
+// added up where they are asked for.
 ghost use mathlib.Core.Path.{_≡_};
+ghost use mathlib.Core.Bool.{true};
+ghost use lib.ListN.{getD};
+ghost use Rattle.choices.specs.Choice.{cond};
 ghost use Rattle.machine.specs.Machine.{machine};
 ghost use Rattle.machine.specs.Lengths.{mostBytes, rowWords};
 ghost use Rattle.machine.specs.Path.{lacks};
 ghost use Rattle.machine.specs.Lent.{codeAt, memoryAt, codeIn, memoryIn, memoryOut};
 ghost use Rattle.machine_steps.specs.RanView.{endOf};
-ghost use Rattle.machine_steps.specs.StepsView.{leftOf, shortOf, endFull, StandingAt, AdvancedAt, StandingIn, StepsOn};
+ghost use Rattle.machine_steps.specs.StepsView.{leftOf, shortOf, endFull, priceBy, PricedAt, StandingAt, AdvancedAt, StandingIn, StepsOn};
 use crate::answer::Ending;
 use crate::answer::Ran;
 use machine::state::VMState;
@@ -73,6 +76,25 @@ fn full(recording: bool, bytes: usize, revision: u64) -> Ending
     }
 }
 
+// Whether rows or prices are asked for: a step with neither pays one test for both.
+fn either(a: bool, b: bool) -> bool
+    ensures { λ r. ⌜ r ≡ cond a true b ⌝ }
+{
+    if a { true } else { b }
+}
+
+// What a step from a slot costs, where prices are asked for.
+fn price(pricing: bool, prices: &[u64], opcodes: &[u64], pointer: u64) -> u64
+    requires { ⌜ PricedAt pricing (now prices) (now opcodes) pointer ⌝ }
+    ensures { λ r. ⌜ r ≡ priceBy pricing (now (prices .entry)) (getD (now (opcodes .entry)) pointer 0) ⌝ }
+{
+    if pricing {
+        prices[opcodes[pointer as usize] as usize]
+    } else {
+        0
+    }
+}
+
 // One step, its records behind place `at` of the log.
 fn advance_at(
     recording: bool,
@@ -116,10 +138,11 @@ fn advance_at(
 }
 
 // Up to `budget` steps of a sound machine. Each tries halted, then spent, then full, then a step, a quick one first. The row of the
-// machine is at hand before its step and goes into the table behind it, since a refused step leaves the table as it is.
+// machine is at hand before its step and goes into the table behind it, since a refused step leaves the table as it is; its price is added behind it.
 pub fn steps(
     recording: bool,
     tabling: bool,
+    pricing: bool,
     budget: u64,
     state: VMState,
     opcodes: &[u64],
@@ -135,17 +158,20 @@ pub fn steps(
     output: &mut [u64],
     b: &mut [u8],
     table: &mut [u64],
+    prices: &[u64],
 ) -> Ran
-    requires { ⌜ StandingIn (machine state (codeAt opcodes arguments public secret digests)
-        (memoryAt «op_stack» origins destinations addresses values output)) (now b) (now table) ⌝ }
-    ensures { λ r. ⌜ StepsOn recording tabling budget (machine state (codeIn opcodes arguments public secret digests)
-        (memoryIn «op_stack» origins destinations addresses values output)) (now (b .entry)) (now (table .entry)) r
+    requires { ⌜ StandingIn pricing (machine state (codeAt opcodes arguments public secret digests)
+        (memoryAt «op_stack» origins destinations addresses values output)) (now b) (now table) (now prices) ⌝ }
+    ensures { λ r. ⌜ StepsOn recording tabling pricing budget (machine state (codeIn opcodes arguments public secret digests)
+        (memoryIn «op_stack» origins destinations addresses values output)) (now (b .entry)) (now (table .entry)) (now (prices .entry)) r
         (memoryOut «op_stack» origins destinations addresses values output) (now (b .exit)) (now (table .exit)) ⌝ }
 {
     let mut now = state;
     let mut count: u64 = 0;
     let mut at: usize = 0;
     let mut filled: usize = 0;
+    let mut fee: u64 = 0;
+    let beside = either(tabling, pricing);
     let mut row = [0u64; 37];
     take_row(
         tabling,
@@ -182,6 +208,7 @@ pub fn steps(
                 ending: ending,
                 state: now,
                 bytes: at,
+                fee: fee,
             };
         }
         let q = quick(
@@ -199,33 +226,40 @@ pub fn steps(
         if q.done {
             at = moved(recording, now.clock, op_stack, now.depth, q.depth, b, at);
             now.clock = now.clock + 1;
+            let from = now.pointer;
             now.pointer = q.pointer;
             now.depth = q.depth;
             count += 1;
-            if tabling {
-                filled = next_row(
-                    table,
-                    filled,
-                    &mut row,
-                    now.clock as u64,
-                    now.pointer,
-                    now.depth,
-                    now.jumps,
-                    now.digests,
-                    now.cells,
-                    opcodes,
-                    arguments,
-                    digests,
-                    op_stack,
-                    origins,
-                    destinations,
-                    addresses,
-                    values,
-                );
+            if beside {
+                if tabling {
+                    fee = fee + price(pricing, prices, opcodes, from);
+                    filled = next_row(
+                        table,
+                        filled,
+                        &mut row,
+                        now.clock as u64,
+                        now.pointer,
+                        now.depth,
+                        now.jumps,
+                        now.digests,
+                        now.cells,
+                        opcodes,
+                        arguments,
+                        digests,
+                        op_stack,
+                        origins,
+                        destinations,
+                        addresses,
+                        values,
+                    );
+                    continue;
+                }
+                fee = fee + price(true, prices, opcodes, from);
                 continue;
             }
             continue;
         }
+        let from = now.pointer;
         let r = advance_at(
             recording,
             at,
@@ -249,26 +283,31 @@ pub fn steps(
             Answer::Took => {
                 count += 1;
                 at += r.bytes;
-                if tabling {
-                    filled = next_row(
-                        table,
-                        filled,
-                        &mut row,
-                        now.clock as u64,
-                        now.pointer,
-                        now.depth,
-                        now.jumps,
-                        now.digests,
-                        now.cells,
-                        opcodes,
-                        arguments,
-                        digests,
-                        op_stack,
-                        origins,
-                        destinations,
-                        addresses,
-                        values,
-                    );
+                if beside {
+                    if tabling {
+                        fee = fee + price(pricing, prices, opcodes, from);
+                        filled = next_row(
+                            table,
+                            filled,
+                            &mut row,
+                            now.clock as u64,
+                            now.pointer,
+                            now.depth,
+                            now.jumps,
+                            now.digests,
+                            now.cells,
+                            opcodes,
+                            arguments,
+                            digests,
+                            op_stack,
+                            origins,
+                            destinations,
+                            addresses,
+                            values,
+                        );
+                        continue;
+                    }
+                    fee = fee + price(true, prices, opcodes, from);
                     continue;
                 }
             }
@@ -278,6 +317,7 @@ pub fn steps(
                     ending: Ending::Refused(error),
                     state: now,
                     bytes: at,
+                    fee: fee,
                 };
             }
         }
@@ -288,5 +328,6 @@ pub fn steps(
         ending: ending,
         state: now,
         bytes: at,
+        fee: fee,
     }
 }

@@ -5,14 +5,14 @@ use mathlib.Core.List.{List, [], _∷_, _++_}
 use lib.ListN.{length}
 use lib.Dec.{eqb}
 use Rattle.choices.specs.Choice.{cond}
-use Rattle.machine.specs.Refusal.{plainly}
+use Rattle.machine.specs.Refusal.{Refusal}
 use Rattle.machine.specs.Machine.{Machine}
 use Rattle.machine.specs.Effect.{Decision}
 use Rattle.machine.specs.Apply.{Outcome, took, kept, lost}
-use Rattle.machine.specs.PlaceA.{machineA, stepA}
+use Rattle.machine.specs.PlaceA.{stepA}
+use Rattle.machine.specs.FeeTable.{checked}
 use Rattle.machine.specs.Step.{outcomeBy}
 use Rattle.machine.specs.Path.{spent, refused, Path, stays, onward, unlogged, bytes, tabled}
-use Rattle.machine.specs.Run.{traceA, rowsA}
 use Rattle.machine.proofs.Step.{step-outcome}
 use Rattle.machine.proofs.Path.{lastOf, Chain, chain-none, chain-more, chain-append, Row, row-stays, row-drops}
 use Rattle.machine.proofs.Run.{call-row}
@@ -26,14 +26,14 @@ module _ (decide : Machine → Decision) where
 
   pub row-ask : (m : Machine) (a : Ask) → Row decide m (askOf decide m a)
   unfolding askOf
-  row-ask m (step b) = rw (step-outcome decide m b) (go (eqb (stepA m b) 0))
+  row-ask m (step f b) = rw (step-outcome decide f m b) (go (checked f (stepA m b)) (eqb (checked f (stepA m b) .number) 0))
     where
-      go : (t : Bool) → Row decide m (onward m (stays spent) (cond t (outcomeBy decide m) (kept (plainly (stepA m b)))))
-      go true = row-step m (outcomeBy decide m) refl
-      go false = row-stays decide m (refused (plainly (stepA m b)))
-  row-ask m (run n) = call-row decide (machineA m) unlogged n m
-  row-ask m (trace n b) = call-row decide (traceA m b) (bytes (length b)) n m
-  row-ask m (rows n b t) = call-row decide (rowsA m b t) (tabled (length b) (length t)) n m
+      go : (r : Refusal) (t : Bool) → Row decide m (onward m (stays spent) (cond t (outcomeBy decide m) (kept r)))
+      go r true = row-step m (outcomeBy decide m) refl
+      go r false = row-stays decide m (refused r)
+  row-ask m (run f n) = call-row decide f unlogged n m
+  row-ask m (trace f n b) = call-row decide f (bytes (length b)) n m
+  row-ask m (rows f n b t) = call-row decide f (tabled (length b) (length t)) n m
 
   pub job-chain : (asks : List Ask) (m : Machine) → Chain decide m (jobOf decide m asks)
   unfolding jobOf

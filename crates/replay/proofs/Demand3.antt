@@ -94,7 +94,7 @@ altered-length v before after r x =
 module _ (decide : Machine → Decision) (facts : (m : Machine) → Sound m → (e : Effect) → decide m ≡ acts e → Facts m e) where
   module _ (m : Machine) (c : Cells) (asks : List Ask) (j : ℕ) (o : Case decide m c asks j) where
     opens : Opened (o .revision) m
-    opens = open-sound (o .revision) (o .digest) (o .code) (o .memory) (o .count) m (o .opens)
+    opens = open-sound (o .fees) (o .revision) (o .digest) (o .code) (o .memory) (o .count) m (o .opens)
 
     opening : started (replicate (length (m .memory .opStack)) 0) c ≡ shadow (tally 0 0 0 0) m c
     opening = rw (opens .depth, under-zeros (m .memory .opStack))

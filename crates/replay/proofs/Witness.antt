@@ -22,7 +22,8 @@ use Rattle.machine.specs.PlaceA.{code1, memory1, buffer1, code2, machine2, opco
 use Rattle.machine.specs.Open.{openedStack, opened, openOf}
 use Rattle.machine.specs.Step.{outcomeBy, stepBy}
 use Rattle.machine.specs.Path.{the-log, full, stays, stepLog, pathBy, logFrom}
-use Rattle.machine.specs.Run.{traceA, callBy}
+use Rattle.machine.specs.FeeTable.{FeeTable, feeTable, inRow, timesIn, wide1, table1, turned64, rows64, lowestOpcode, unpriced65, pricedTwice66, tableFault, unpriced, priced}
+use Rattle.machine.specs.Run.{callA, callBy}
 use Rattle.machine.specs.Records.{stack, callRecords, growing, shrinking, stackRecords, recordsOf, recordBytes, logBytes}
 use Rattle.machine.proofs.RamLaws.{alike-same}
 use Rattle.replay.specs.Job.{Ask, step, run, trace, askOf, jobOf, recordsOfJob, machineAt}
@@ -43,25 +44,32 @@ ourDigest = 1 ∷ 2 ∷ 3 ∷ 4 ∷ 5 ∷ []
 unfoldable pub our : Machine
 our = opened 1 ourDigest ourCode ourMemory 1
 
--- a step with no buffer (refused by 1), a run of 0, a trace of 9 with no log (full at once), one with a log for one step, a run of 1, a run of 9
-unfoldable pub asks : List Ask
-asks = step [] ∷ run 0 ∷ trace 9 [] ∷ trace 9 (replicate 1024 0) ∷ run 1 ∷ run 9 ∷ []
+-- one row for all, and none
+unfoldable pub oneRow : FeeTable
+oneRow = feeTable (0 ∷ []) (127 ∷ []) (3 ∷ [])
 
-our-opens : openOf 1 ourDigest ourCode ourMemory 1 ≡ took our
+unfoldable pub noRows : FeeTable
+noRows = feeTable [] [] []
+
+-- a step with no buffer (refused by 1), a run of 0, one with a bad fee table (refused by 65), a trace of 9 with no log (full at once), one with a log for one step, a run of 1 with a good table, a run of 9
+unfoldable pub asks : List Ask
+asks = step unpriced [] ∷ run unpriced 0 ∷ run (priced noRows) 9 ∷ trace unpriced 9 [] ∷ trace unpriced 9 (replicate 1024 0) ∷ run (priced oneRow) 1 ∷ run unpriced 9 ∷ []
+
+our-opens : openOf unpriced 1 ourDigest ourCode ourMemory 1 ≡ took our
 unfolding our ourCode ourMemory ourDigest openedStack opened openOf code1 memory1 code2 opcodes3 arguments4 code34 revision4 openA table decode placeFrom placeOf standsAt find held cells1 cells2 cells5 fallOf fallsOf wordOf2 wordsOf zerosFrom firstOf aboveOf differOf
 our-opens = refl
 
 pub our-records : recordsOfJob decideOf our asks ≡ stack 0 16 1 5 ∷ stack 1 16 0 5 ∷ []
-unfolding our asks ourCode ourMemory ourDigest logFrom jobOf askOf pathBy mostBytes clockBytes traceA callBy stepLog logBytes recordBytes bytesOf stepBy buffer1 stepA machineA machine2 machine5 outcomeBy callRecords growing shrinking stackRecords recordsOf openedStack opened code1 memory1 code2 opcodes3 arguments4 code34 revision4 appliedStack touched performed limitsOf settled effectOf decideOf pushOf popOf haltOf topOf table decode sizeOf placeFrom placeOf standsAt find held cells1 cells2 cells5 fallOf fallsOf wordOf2 wordsOf zerosFrom firstOf aboveOf differOf
+unfolding our asks ourCode ourMemory ourDigest logFrom jobOf askOf pathBy mostBytes clockBytes callA callBy oneRow noRows inRow timesIn wide1 table1 turned64 rows64 lowestOpcode unpriced65 pricedTwice66 tableFault stepLog logBytes recordBytes bytesOf stepBy buffer1 stepA machineA machine2 machine5 outcomeBy callRecords growing shrinking stackRecords recordsOf openedStack opened code1 memory1 code2 opcodes3 arguments4 code34 revision4 appliedStack touched performed limitsOf settled effectOf decideOf pushOf popOf haltOf topOf table decode sizeOf placeFrom placeOf standsAt find held cells1 cells2 cells5 fallOf fallsOf wordOf2 wordsOf zerosFrom firstOf aboveOf differOf
 our-records = refl
 
 pub our-steps : length (jobOf decideOf our asks) ≡ 3
-unfolding our asks ourCode ourMemory ourDigest jobOf askOf pathBy mostBytes clockBytes traceA callBy stepLog logBytes recordBytes bytesOf stepBy buffer1 stepA machineA machine2 machine5 outcomeBy callRecords growing shrinking stackRecords recordsOf openedStack opened code1 memory1 code2 opcodes3 arguments4 code34 revision4 appliedStack touched performed limitsOf settled effectOf decideOf pushOf popOf haltOf topOf table decode sizeOf placeFrom placeOf standsAt find held cells1 cells2 cells5 fallOf fallsOf wordOf2 wordsOf zerosFrom firstOf aboveOf differOf
+unfolding our asks ourCode ourMemory ourDigest jobOf askOf pathBy mostBytes clockBytes callA callBy oneRow noRows inRow timesIn wide1 table1 turned64 rows64 lowestOpcode unpriced65 pricedTwice66 tableFault stepLog logBytes recordBytes bytesOf stepBy buffer1 stepA machineA machine2 machine5 outcomeBy callRecords growing shrinking stackRecords recordsOf openedStack opened code1 memory1 code2 opcodes3 arguments4 code34 revision4 appliedStack touched performed limitsOf settled effectOf decideOf pushOf popOf haltOf topOf table decode sizeOf placeFrom placeOf standsAt find held cells1 cells2 cells5 fallOf fallsOf wordOf2 wordsOf zerosFrom firstOf aboveOf differOf
 our-steps = refl
 
 -- the first trace takes no step, the second the job's first one
-pub our-traced : (askOf decideOf our (trace 9 []) ≡ stays (full the-log) our) × (logFrom decideOf our (askOf decideOf our (trace 9 (replicate 1024 0)) .machines) ≡ stack 0 16 1 5 ∷ [])
-unfolding our ourCode ourMemory ourDigest logFrom askOf pathBy mostBytes clockBytes traceA callBy stepLog logBytes recordBytes bytesOf stepBy buffer1 stepA machineA machine2 machine5 outcomeBy callRecords growing shrinking stackRecords recordsOf openedStack opened code1 memory1 code2 opcodes3 arguments4 code34 revision4 appliedStack touched performed limitsOf settled effectOf decideOf pushOf popOf haltOf topOf table decode sizeOf placeFrom placeOf standsAt find held cells1 cells2 cells5 fallOf fallsOf wordOf2 wordsOf zerosFrom firstOf aboveOf differOf
+pub our-traced : (askOf decideOf our (trace unpriced 9 []) ≡ stays (full the-log) our) × (logFrom decideOf our (askOf decideOf our (trace unpriced 9 (replicate 1024 0)) .machines) ≡ stack 0 16 1 5 ∷ [])
+unfolding our ourCode ourMemory ourDigest logFrom askOf pathBy mostBytes clockBytes callA callBy oneRow noRows inRow timesIn wide1 table1 turned64 rows64 lowestOpcode unpriced65 pricedTwice66 tableFault stepLog logBytes recordBytes bytesOf stepBy buffer1 stepA machineA machine2 machine5 outcomeBy callRecords growing shrinking stackRecords recordsOf openedStack opened code1 memory1 code2 opcodes3 arguments4 code34 revision4 appliedStack touched performed limitsOf settled effectOf decideOf pushOf popOf haltOf topOf table decode sizeOf placeFrom placeOf standsAt find held cells1 cells2 cells5 fallOf fallsOf wordOf2 wordsOf zerosFrom firstOf aboveOf differOf
 our-traced = (refl, refl)
 
 our-short : length (logBytes (our .state .revision) (stack 0 16 1 5 ∷ stack 1 16 0 5 ∷ [])) ≤ 16777216
@@ -71,6 +79,7 @@ our-short = lit≤ tt
 pub our-case : Case decideOf our (M.ram our) asks 2
 our-case =
     record {
+      fees = unpriced;
       revision = 1;
       digest = ourDigest;
       code = ourCode;

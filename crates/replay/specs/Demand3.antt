@@ -13,6 +13,7 @@ use Rattle.machine.specs.Decide.{decideOf}
 use Rattle.machine.specs.Apply.{took}
 use Rattle.machine.specs.Bytes.{Bytes, bytesOf, isWord}
 use Rattle.machine.specs.Records.{Record, other, timed, stack, ram, recordBytes, logBytes}
+use Rattle.machine.specs.FeeTable.{Fees}
 use Rattle.machine.specs.Open.{openOf}
 use Rattle.replay.specs.Replay.{Replayed, replayOf, refuses}
 use Rattle.replay.specs.Job.{Ask, jobOf, recordsOfJob, machineAt}
@@ -47,15 +48,16 @@ replayed m c log j = replayOf (m .state .revision) log c (replicate (length (m .
 
 module _ (decide : Machine → Decision) where
   -- "every list of step and run calls on a freshly opened job, refused ones included": the demand asks for step and run; trace_execution
-  -- and trace_rows are more. m is what open left, c the cells lent to replay, whose unused ones are free; "a call log of at most 16 MiB"; "every clock j
+  -- and trace_rows are more, and so are fee tables. m is what open left, c the cells lent to replay, whose unused ones are free; "a call log of at most 16 MiB"; "every clock j
   -- from 0 to k"
   pub record Case (m : Machine) (c : Cells) (asks : List Ask) (j : ℕ) : Type 0 where
+    pub fees : Fees
     pub revision : ℕ
     pub digest : List ℕ
     pub code : Code
     pub memory : Memory
     pub count : ℕ
-    pub opens : openOf revision digest code memory count ≡ took m
+    pub opens : openOf fees revision digest code memory count ≡ took m
     pub same : Alike c (M.ram m)
     pub short : length (logBytes (m .state .revision) (recordsOfJob decide m asks)) ≤ longest
     pub clock : j ≤ length (jobOf decide m asks)

@@ -6,24 +6,26 @@ use Rattle.choices.specs.Choice.{cond}
 use Rattle.machine.specs.Machine.{Machine}
 use Rattle.machine.specs.Effect.{Decision}
 use Rattle.machine.specs.Records.{Record}
+use Rattle.machine.specs.FeeTable.{Fees}
 use Rattle.machine.specs.Step.{stepBy}
 use Rattle.machine.specs.Path.{spent, Path, stays, onward, logFrom}
 use Rattle.machine.specs.Run.{runBy, traceBy, rowsBy}
 
--- a call: step with a call buffer, run with a budget, trace_execution with a budget and a log, trace_rows with a table too
+-- a call: step with a call buffer, run with a budget, trace_execution with a budget and a log, trace_rows with a table too; each with a fee table or
+-- without
 pub data Ask : Type 0 where
-  step : List ℕ → Ask
-  run : ℕ → Ask
-  trace : ℕ → List ℕ → Ask
-  rows : ℕ → List ℕ → List ℕ → Ask
+  step : Fees → List ℕ → Ask
+  run : Fees → ℕ → Ask
+  trace : Fees → ℕ → List ℕ → Ask
+  rows : Fees → ℕ → List ℕ → List ℕ → Ask
 
 module _ (decide : Machine → Decision) where
   -- the path of a call: that of step is one step, or none where it is refused
   unfoldable pub askOf : Machine → Ask → Path
-  askOf m (step b) = onward m (stays spent) (stepBy decide m b .outcome)
-  askOf m (run n) = runBy decide n m
-  askOf m (trace n b) = traceBy decide n m b
-  askOf m (rows n b t) = rowsBy decide n m b t
+  askOf m (step f b) = onward m (stays spent) (stepBy decide f m b .outcome)
+  askOf m (run f n) = runBy decide f n m
+  askOf m (trace f n b) = traceBy decide f n m b
+  askOf m (rows f n b t) = rowsBy decide f n m b t
 
   -- the machines after each of the job's steps: each call is handed what the last left, refused ones included, up to the
   -- first skiz refused with its word dropped

@@ -18,8 +18,10 @@ use Rattle.machine.specs.Apply.{took, kept, lost}
 use Rattle.machine.specs.Records.{Record, logBytes}
 use Rattle.machine.specs.Step.{recordsIn}
 use Rattle.machine.specs.Lengths.{clockBytes, mostBytes}
+use Rattle.machine.specs.FeeTable.{unpriced}
+use Rattle.machine.specs.Fee.{feeOf}
 use Rattle.machine.specs.Path.{Ending, Path, count, Space, unlogged, bytes, tooLittle, pathBy, logFrom}
-use Rattle.machine.specs.Run.{traceA}
+use Rattle.machine.specs.Run.{callA}
 use Rattle.machine.specs.Sound.{Sound}
 use Rattle.choices.proofs.Choice.{first-zero, above-not}
 use Rattle.machine.proofs.PlaceA.{machine-accepted}
@@ -155,15 +157,15 @@ pub record Followed (done n : ℕ) (x : Machine) (t : Ran) (y : Machine) (log : 
       pieceLines (take (t .bytes) log) (y .memory .output) (endingIn (t .ending)) (done + t .count) (y .state)
       ++ cond (isFull (endingIn (t .ending))) (linesFrom (done + t .count) (n - t .count) y) []
 
-pub followed : (done n : ℕ) (x : Machine) (t : Ran) (m : Memory) (log log2 : List ℕ) → Sound x → x .state .revision ≡ 1 → length log ≤ longest → 1024 ≤ length log → Traces n x log t m log2 →
+pub followed : (done n : ℕ) (x : Machine) (t : Ran) (m : Memory) (log log2 : List ℕ) → Sound x → x .state .revision ≡ 1 → length log ≤ longest → 1024 ≤ length log → Traces unpriced n x log t m log2 →
     Followed done n x t (machine (t .state) (x .code) m) log2
-unfolding traceA pieceLines mostBytes clockBytes
+unfolding callA pieceLines mostBytes clockBytes
 followed done n x t m log log2 s one few step w =
-    let z : traceA x log ≡ 0 = first-zero _ _ (above-not (length log) longest 1 few) ∙ machine-accepted x s in
+    let z : callA (bytes (length log)) x ≡ 0 = first-zero _ _ refl ∙ first-zero _ _ (above-not (length log) longest 1 few) ∙ machine-accepted x s in
     of (pathBy decideOf (bytes (length log)) n x) (goes decideOf (bytes (length log)) n x)
-    (subst (λ (p : Path). RanAs p (logBytes (x .state .revision) (logFrom decideOf x (p .machines))) (x .code) log t m log2) (call-is decideOf (traceA x log) (bytes (length log)) n x z) w)
+    (subst (λ (p : Path). RanAs p (feeOf unpriced x (p .machines)) (logBytes (x .state .revision) (logFrom decideOf x (p .machines))) (x .code) log t m log2) (call-is decideOf unpriced (bytes (length log)) n x z) w)
   where
-    of : (p : Path) → Goes decideOf (bytes (length log)) n x p → RanAs p (logBytes (x .state .revision) (logFrom decideOf x (p .machines))) (x .code) log t m log2 → Followed done n x t (machine (t .state) (x .code) m) log2
+    of : (p : Path) → Goes decideOf (bytes (length log)) n x p → RanAs p (feeOf unpriced x (p .machines)) (logBytes (x .state .revision) (logFrom decideOf x (p .machines))) (x .code) log t m log2 → Followed done n x t (machine (t .state) (x .code) m) log2
     of p g r =
         let own = logBytes (x .state .revision) (logFrom decideOf x (p .machines)) in
         let front : log2 ≡ own ++ drop (length own) log = r .buffer ∙ logged-front log own in
@@ -181,7 +183,7 @@ followed done n x t m log log2 s one few step w =
         })
 
 module _ (j : Pending) (c : Code) (m : Memory) (t : Ran) (n : Memory) (log log2 text : List ℕ) where
-  module _ (y : Ready j c m) (room : Room log text) (z : j .number ≡ 0) (w : Traces (j .budget) (machineFor j c m) log t n log2) where
+  module _ (y : Ready j c m) (room : Room log text) (z : j .number ≡ 0) (w : Traces unpriced (j .budget) (machineFor j c m) log t n log2) where
     goes-on : Followed (j .done) (j .budget) (machineFor j c m) t (machine (t .state) (codeFor j c) n) log2
     goes-on = followed (j .done) (j .budget) (machineFor j c m) t n log log2 (y .sound z) (y .revision z) (room .few) (room .step) w
 

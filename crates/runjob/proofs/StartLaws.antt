@@ -15,6 +15,7 @@ use Rattle.machine.specs.Machine.{Code, Memory, Machine, machine, code, memory}
 use Rattle.machine.specs.Apply.{Outcome, took, kept, lost}
 use Rattle.machine_log.specs.Logged.{logged}
 use Rattle.machine.specs.PlaceA.{openA}
+use Rattle.machine.specs.FeeTable.{unpriced}
 use Rattle.machine.specs.Open.{opened, openOf}
 use Rattle.machine.specs.Decide.{decideOf}
 use Rattle.machine.specs.Path.{count, unlogged, pathBy}
@@ -99,7 +100,7 @@ data Turns : Outcome → Type 0 where
   opens : {x : Machine} → Turns (took x)
   turns : {o : Outcome} → (numberBy o ≡ 0 → ⊥) → Turns o
 
-open-turns : (g : List ℕ) (c : Code) (m : Memory) (n : ℕ) → Turns (openOf 1 g c m n)
+open-turns : (g : List ℕ) (c : Code) (m : Memory) (n : ℕ) → Turns (openOf unpriced 1 g c m n)
 unfolding openOf
 open-turns g c m n = go (eqb (openA 1 g c m n) 0) refl
   where
@@ -119,17 +120,17 @@ run-lines : (budget : ℕ) (m : Machine) → runLines budget m ≡ linesFrom 0 b
 unfolding runLines linesFrom
 run-lines budget m = let p = pathBy decideOf unlogged budget m in ap (λ (n : ℕ). pathLines n m p) (sym (zero-add (count p)))
 
-good-lines : (j : Job) → j .number ≡ 0 → jobLines j ≡ onOpened (j .budget) (openOf 1 (j .digest) (codeOf j) (memoryOf j) (length (j .addresses)))
+good-lines : (j : Job) → j .number ≡ 0 → jobLines j ≡ onOpened (j .budget) (openOf unpriced 1 (j .digest) (codeOf j) (memoryOf j) (length (j .addresses)))
 unfolding jobLines
-good-lines j e = ap (λ (t : Bool). cond t (onOpened (j .budget) (openOf 1 (j .digest) (codeOf j) (memoryOf j) (length (j .addresses)))) (notOpened (j .number))) (eq-eqb (j .number) 0 e)
+good-lines j e = ap (λ (t : Bool). cond t (onOpened (j .budget) (openOf unpriced 1 (j .digest) (codeOf j) (memoryOf j) (length (j .addresses)))) (notOpened (j .number))) (eq-eqb (j .number) 0 e)
 
 bad-lines : (j : Job) → (j .number ≡ 0 → ⊥) → jobLines j ≡ notOpened (j .number)
 unfolding jobLines
-bad-lines j e = ap (λ (t : Bool). cond t (onOpened (j .budget) (openOf 1 (j .digest) (codeOf j) (memoryOf j) (length (j .addresses)))) (notOpened (j .number))) (ne-eqb (j .number) 0 e)
+bad-lines j e = ap (λ (t : Bool). cond t (onOpened (j .budget) (openOf unpriced 1 (j .digest) (codeOf j) (memoryOf j) (length (j .addresses)))) (notOpened (j .number))) (ne-eqb (j .number) 0 e)
 
 module _ (j : Job) where
   abbrev Open : Outcome
-  Open = openOf 1 (j .digest) (codeOf j) (memoryOf j) (length (j .addresses))
+  Open = openOf unpriced 1 (j .digest) (codeOf j) (memoryOf j) (length (j .addresses))
 
   not-opened : (n : ℕ) → n ≡ firstOf (j .number) (numberBy Open) → (n ≡ 0 → ⊥) → jobLines j ≡ notOpened n
   not-opened n e h = go (eqb (j .number) 0) refl
@@ -151,7 +152,7 @@ module _ (j : Job) where
     where
       go : (o : Outcome) → Open ≡ o → leftBy (machine noState (codeOf j) (memoryOf j)) o ≡ x → Turns o → numberBy o ≡ 0 → (onOpened (j .budget) o ≡ runLines (j .budget) x) × Sound x × (x .state .revision ≡ 1)
       go (took y) e q t n =
-          let k = open-sound 1 (j .digest) (codeOf j) (memoryOf j) (length (j .addresses)) y e in
+          let k = open-sound unpriced 1 (j .digest) (codeOf j) (memoryOf j) (length (j .addresses)) y e in
           (ap (runLines (j .budget)) q, subst Sound q (k .sound), subst (λ (z : Machine). z .state .revision ≡ 1) q (k .revision))
       go (kept r) e q (turns h) n = absurd (h n)
       go (lost r y) e q (turns h) n = absurd (h n)
@@ -180,14 +181,14 @@ module _ (file : List ℕ) (j : JobFile) (l l2 : Lent) (s : Says (jobOf file) j 
           ∙ ap (λ (u : List ℕ). memory z e e (logged z 0 (jobOf file .addresses)) u (m .output)) y
           ∙ ap (λ (u : List ℕ). memory z e e (logged z 0 (jobOf file .addresses)) (logged z 0 (jobOf file .values)) u) output
 
-      same-open : openOf 1 (j .digest) Taken m (j .cells) ≡ Open (jobOf file)
+      same-open : openOf unpriced 1 (j .digest) Taken m (j .cells) ≡ Open (jobOf file)
       same-open =
-          ap (λ (g : List ℕ). openOf 1 g Taken m (j .cells)) (s .digest) ∙ ap (λ (c : Code). openOf 1 (jobOf file .digest) c m (j .cells)) taken
-          ∙ ap (λ (x : Memory). openOf 1 (jobOf file .digest) (codeOf (jobOf file)) x (j .cells)) lends ∙ ap (λ (n : ℕ). openOf 1 (jobOf file .digest) (codeOf (jobOf file)) (memoryOf (jobOf file)) n) (s .addresses .count)
+          ap (λ (g : List ℕ). openOf unpriced 1 g Taken m (j .cells)) (s .digest) ∙ ap (λ (c : Code). openOf unpriced 1 (jobOf file .digest) c m (j .cells)) taken
+          ∙ ap (λ (x : Memory). openOf unpriced 1 (jobOf file .digest) (codeOf (jobOf file)) x (j .cells)) lends ∙ ap (λ (n : ℕ). openOf unpriced 1 (jobOf file .digest) (codeOf (jobOf file)) (memoryOf (jobOf file)) n) (s .addresses .count)
 
-      module _ (r : Moved) (m2 : Memory) (o : Opens 1 (j .digest) Taken m (j .cells) r m2) (k n : ℕ) (answers : k ≡ numberIn (r .answer)) (first : n ≡ firstOf (j .number) k) where
+      module _ (r : Moved) (m2 : Memory) (o : Opens unpriced 1 (j .digest) Taken m (j .cells) r m2) (k n : ℕ) (answers : k ≡ numberIn (r .answer)) (first : n ≡ firstOf (j .number) k) where
         by-open : k ≡ numberBy (Open (jobOf file))
-        by-open = answers ∙ number-is (r .answer) (openOf 1 (j .digest) Taken m (j .cells)) (o .is .answer) ∙ ap numberBy same-open
+        by-open = answers ∙ number-is (r .answer) (openOf unpriced 1 (j .digest) Taken m (j .cells)) (o .is .answer) ∙ ap numberBy same-open
 
         number-of : n ≡ firstOf (jobOf file .number) (numberBy (Open (jobOf file)))
         number-of = first ∙ ap (λ (x : ℕ). firstOf x k) (s .number) ∙ ap (firstOf (jobOf file .number)) by-open
@@ -195,8 +196,8 @@ module _ (file : List ℕ) (j : JobFile) (l l2 : Lent) (s : Says (jobOf file) j 
         left-is : leftBy (machine noState (codeOf (jobOf file)) (memoryOf (jobOf file))) (Open (jobOf file)) ≡ machine (r .state) Taken m2
         left-is =
             sym
-            (o .is .left ∙ ap (λ (c : Code). leftBy (machine noState c m) (openOf 1 (j .digest) Taken m (j .cells))) taken
-            ∙ ap (λ (x : Memory). leftBy (machine noState (codeOf (jobOf file)) x) (openOf 1 (j .digest) Taken m (j .cells))) lends
+            (o .is .left ∙ ap (λ (c : Code). leftBy (machine noState c m) (openOf unpriced 1 (j .digest) Taken m (j .cells))) taken
+            ∙ ap (λ (x : Memory). leftBy (machine noState (codeOf (jobOf file)) x) (openOf unpriced 1 (j .digest) Taken m (j .cells))) lends
             ∙ ap (leftBy (machine noState (codeOf (jobOf file)) (memoryOf (jobOf file)))) same-open)
 
         both : n ≡ 0 → (jobLines (jobOf file) ≡ runLines (jobOf file .budget) (machine (r .state) Taken m2)) × Sound (machine (r .state) Taken m2) × (r .state .revision ≡ 1)

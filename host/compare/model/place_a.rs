@@ -1,13 +1,14 @@
 //! Place A: what is wrong with what a call is handed, by numbers 1 to 5, each tried over everything before the next.
+use super::fees::has_shape;
 use crate::field::P;
 use crate::instructions::decode;
-use crate::lent::{answer, register, step_bytes, Code, MemoryView, LONGEST};
+use crate::lent::{answer, register, step_bytes, Code, Fees, MemoryView, LONGEST};
 
 /// What a call takes besides code and memory. `Read` is of those that take no step, and give so many words.
 pub enum Handed<'a> {
-    Open { registers: &'a [u64], answer: &'a [u64], revision: u64, digest: &'a [u64], cells: u64 },
-    Step { registers: &'a [u64], answer: &'a [u64], calls: &'a [u8] },
-    Run { registers: &'a [u64], answer: &'a [u64], log: &'a [u8], rows: &'a [u64] },
+    Open { registers: &'a [u64], answer: &'a [u64], revision: u64, digest: &'a [u64], cells: u64, fees: Option<Fees<'a>> },
+    Step { registers: &'a [u64], answer: &'a [u64], calls: &'a [u8], fees: Option<Fees<'a>> },
+    Run { registers: &'a [u64], answer: &'a [u64], log: &'a [u8], rows: &'a [u64], fees: Option<Fees<'a>> },
     Read { registers: &'a [u64], words: &'a [u64], count: usize },
 }
 
@@ -70,17 +71,22 @@ pub fn place_a(handed: &Handed, code: Code, memory: MemoryView) -> u64 {
 }
 
 fn lengths_fit(handed: &Handed, code: Code, memory: MemoryView) -> bool {
+    // a step and a run with a fee table have a word more
+    let fits = |answer: &[u64], fees: Option<Fees>| match fees {
+        None => answer.len() == answer::ALL,
+        Some(fees) => answer.len() == answer::WITH_FEES && has_shape(fees),
+    };
     let own = match *handed {
-        Handed::Open { registers, answer, digest, .. } => {
-            answer.len() == answer::ALL && registers.len() == register::ALL && digest.len() == 5
+        Handed::Open { registers, answer, digest, fees, .. } => {
+            answer.len() == answer::ALL && registers.len() == register::ALL && digest.len() == 5 && fees.is_none_or(has_shape)
         }
-        Handed::Step { registers, answer, calls } => {
-            answer.len() == answer::ALL
+        Handed::Step { registers, answer, calls, fees } => {
+            fits(answer, fees)
                 && registers.len() == register::ALL
                 && (step_bytes(registers[register::REVISION])..=LONGEST).contains(&calls.len())
         }
-        Handed::Run { registers, answer, log, rows } => {
-            answer.len() == answer::ALL && registers.len() == register::ALL && log.len().max(rows.len()) <= LONGEST
+        Handed::Run { registers, answer, log, rows, fees } => {
+            fits(answer, fees) && registers.len() == register::ALL && log.len().max(rows.len()) <= LONGEST
         }
         Handed::Read { registers, words, count } => words.len() == count && registers.len() == register::ALL,
     };

@@ -1,11 +1,12 @@
-//! The order of RAM's cells, the log's revision and rows, on small machines; and replay.
+//! The order of RAM's cells, the log's revision, rows and fees, on small machines; and replay.
 use super::replay::{replay, replay_by_bytes, word};
 use super::MODEL;
+use crate::fees::Table;
 use crate::field::P;
 use crate::instructions::named;
 use crate::lent::{answer, column, ending, register, Machine, Row, STEP_BYTES};
 use crate::random::Random;
-use kixombu::{bytes_of, Record};
+use kixombu::{bytes_of, FeeFault, FeeRow, FeeTable, Record};
 
 /// What unused cells hold: no word, and it stays.
 const UNUSED: u64 = u64::MAX;
@@ -411,6 +412,135 @@ fn what_ends_a_table() {
     start.arguments.pop();
     assert_eq!(trace(&start, 9, 2000, 3 * words), (ending::REFUSED, 11, 2));
     assert_eq!(trace(&start, 9, 2000, 3 * words - 1), (ending::TABLE_FULL, 0, 2));
+}
+
+/// The answer of each call with a table, from a machine that it is handed whole; a refused one leaves the machine as it was.
+fn with_table(machine: &Machine, table: &Table) -> (u64, u64) {
+    let fees = Some(table.slices());
+    let called = |call: &dyn Fn(&mut Machine) -> (u64, u64)| {
+        let mut after = machine.clone();
+        let given = call(&mut after);
+        assert!(given.0 == 0 || after == *machine, "refused with {}, and something is changed", given.0);
+        given
+    };
+    let of = |answer: [u64; answer::ALL]| (answer[answer::NUMBER], answer[answer::WORDS]);
+    let stepped = called(&|machine| of(machine.step_priced(&MODEL, &mut [0; STEP_BYTES], fees).0));
+    assert_eq!(called(&|machine| of(machine.run_priced(&MODEL, 1, fees).0)), stepped);
+    assert_eq!(called(&|machine| of(machine.trace_priced(&MODEL, 1, &mut [0; STEP_BYTES], fees).0)), stepped);
+    let rows = called(&|machine| of(machine.rows_priced(&MODEL, 1, &mut [0; STEP_BYTES], &mut [0; column::ALL], fees).0));
+    assert_eq!(rows, stepped);
+    let cells = machine.registers[register::CELLS];
+    assert_eq!(called(&|machine| of(machine.open_priced(&MODEL, 1, &[0; 5], cells, fees))), stepped);
+    stepped
+}
+
+/// Document 02, R-9: 64, then 65, then 66, the lowest opcode of each. Numbers that are no opcode may be covered or not.
+#[test]
+fn what_is_wrong_with_a_fee_table() {
+    let nop = machine("nop", 0, &[], 0, &[]);
+    let number = |rows: &[[u64; 3]]| with_table(&nop, &Table::new(rows));
+    let all = [0, 88, 7];
+    assert_eq!(number(&[all]), (0, 0));
+    assert_eq!(number(&[[0, u64::MAX, (1 << 32) - 1]]), (0, 0));
+    assert_eq!(number(&[]), (65, 0));
+    assert_eq!(number(&[[0, 87, 7]]), (65, 88));
+    assert_eq!(number(&[[1, 88, 7]]), (65, 0));
+    assert_eq!(number(&[[0, 17, 7], [19, 87, 7]]), (65, 18));
+    assert_eq!(number(&[all, [88, 100, 7]]), (66, 88));
+    assert_eq!(number(&[[88, 100, 7], [18, 18, 7], all, [18, 18, 7]]), (66, 18));
+    // 5 and 7 are no opcodes
+    assert_eq!(number(&[[8, 88, 7], [0, 4, 7], [6, 6, 7]]), (0, 0));
+    assert_eq!(number(&[[5, 88, 7], [0, 5, 7], [7, 7, 7], [7, 7, 7], [89, u64::MAX, 7], [89, 89, 7]]), (0, 0));
+    assert_eq!(number(&[[4, 88, 7], [0, 5, 7]]), (66, 4));
+    // a turned row comes before a gap, and a gap before two
+    assert_eq!(number(&[[0, 87, 7], [100, 99, 7]]), (64, 0));
+    assert_eq!(number(&[all, [u64::MAX, 0, 7]]), (64, 0));
+    assert_eq!(number(&[[0, 87, 7], [0, 0, 7]]), (65, 88));
+    // 64 rows and 65
+    let many = |count: usize| [&[all][..], &vec![[90, 90, 7]; count - 1]].concat();
+    assert_eq!((number(&many(64)), number(&many(65))), ((0, 0), (64, 0)));
+    let gaps: Vec<[u64; 3]> = many(66)[1..].to_vec();
+    assert_eq!((number(&gaps[1..]), number(&gaps)), ((65, 0), (64, 0)));
+}
+
+/// 1 where it is no shape, before all of place A; 64 to 66 behind all of it.
+#[test]
+fn a_fee_table_among_the_numbers() {
+    let sound = machine("nop", 0, &[(3, 1)], 1, &[]);
+    let turned = Table::new(&[[1, 0, 7]]);
+    let no_shape = [
+        Table { fees: vec![1 << 32], ..turned.clone() },
+        Table { fees: vec![7, 7], ..turned.clone() },
+        Table { lowest: vec![], ..turned.clone() },
+        Table { highest: vec![0, 0], ..turned.clone() },
+    ];
+    let damaged = |place: fn(&mut Machine)| {
+        let mut machine = sound.clone();
+        place(&mut machine);
+        machine
+    };
+    for (machine, number) in [
+        (sound.clone(), 64),
+        (damaged(|machine| machine.arguments.push(0)), 1),
+        (damaged(|machine| machine.values[0] = P), 2),
+        (damaged(|machine| machine.opcodes[0] = 5), 3),
+        (damaged(|machine| machine.arguments[0] = 1), 4),
+        (damaged(|machine| machine.registers[register::CELLS] = 2), 5),
+    ] {
+        assert_eq!(with_table(&machine, &turned), (number, 0));
+        no_shape.iter().for_each(|table| assert_eq!(with_table(&machine, table), (1, 0), "{table:?}"));
+    }
+    // before place B
+    let mut halted = sound;
+    halted.registers[register::HALTED] = 1;
+    assert_eq!(halted.clone().step_priced(&MODEL, &mut [0; STEP_BYTES], Some(turned.slices())).0[answer::NUMBER], 64);
+    assert_eq!(halted.run_priced(&MODEL, 1, Some(turned.slices())).0[answer::NUMBER], 64);
+}
+
+/// The crate's own check, which says in words what a call would refuse, comes to the same number and opcode.
+#[test]
+fn the_crate_checks_fee_tables_alike() {
+    let nop = machine("nop", 0, &[], 0, &[]);
+    let mut random = Random::new(2);
+    for _ in 0..2000 {
+        let table = crate::fees::any(&mut random);
+        let has_shape = super::fees::has_shape(table.slices());
+        let rows = table.lowest.iter().zip(&table.highest).map(|(&lowest, &highest)| FeeRow { lowest, highest, fee: 7 });
+        let expected = match rows.collect::<FeeTable>().check() {
+            _ if !has_shape => (1, 0),
+            Ok(()) => (0, 0),
+            Err(fault @ (FeeFault::InNone(opcode) | FeeFault::InTwo { opcode, .. })) => (fault.number(), opcode),
+            Err(fault) => (fault.number(), 0),
+        };
+        assert_eq!(with_table(&nop, &table), expected, "{table:?}");
+    }
+}
+
+/// The row of the slot at the pointer handed in; the sum over the steps that succeeded.
+#[test]
+fn rows_and_fees() {
+    let table = Table::new(&[[3, 8, (1 << 32) - 1], [0, 0, 10_000], [1, 1, 1], [2, 2, 50], [9, 88, 100]]);
+    let fees = Some(table.slices());
+    // push 0; nop; skiz, which has no slot behind it
+    let mut start = machine("push", 0, &[], 0, &[]);
+    (start.opcodes, start.arguments) = (vec![1, 1, 8, 2], vec![0, 0, 0, 0]);
+    start.op_stack.push(0);
+    for (budget, expected) in [(0, (ending::SPENT, 0, 0)), (1, (ending::SPENT, 1, 1)), (9, (ending::REFUSED, 2, 1 << 32))] {
+        let (answer, fee) = start.clone().run_priced(&MODEL, budget, fees);
+        assert_eq!((answer[answer::ENDING], answer[answer::STEPS], fee.unwrap()), expected, "{budget}");
+    }
+    let mut step = || {
+        let (answer, row) = start.step_priced(&MODEL, &mut [0; STEP_BYTES], fees);
+        (answer[answer::NUMBER], row.unwrap())
+    };
+    assert_eq!([step(), step(), step()], [(0, 2), (0, 0), (11, 0)]);
+    // an answer with a word too many or too few says nothing
+    for length in [answer::ALL, answer::WITH_FEES + 1] {
+        let mut answer = vec![9; length];
+        let (registers, code, memory) = start.parts();
+        assert_eq!((MODEL.run_with_fees)(registers, &mut answer, 1, code, memory, table.slices()), 1);
+        assert_eq!(answer, vec![9; length]);
+    }
 }
 
 /// The clock of kinds 6 and 7 is that before the step, and moves replay's last clock.

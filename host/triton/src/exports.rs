@@ -56,6 +56,12 @@ pub mod answer {
     pub const BYTES: usize = 6;
     /// How many words there are.
     pub const ALL: usize = 7;
+    /// Of step with a fee table: the row that priced the step, counted from 0; 0 where it is refused.
+    pub const ROW: usize = 7;
+    /// Of run, trace_execution and trace_rows with a fee table: the fee of the steps that succeeded, whatever ended the call.
+    pub const FEE: usize = 7;
+    /// How many words there are with a fee table, but for open, which gives no fee and no row.
+    pub const WITH_FEES: usize = 8;
 }
 
 /// The ending in an answer.
@@ -187,6 +193,17 @@ impl Memory<'_> {
     }
 }
 
+/// A fee table, only to be read. Each slice has one word for each row, and all are of one length, else the call is refused with 1.
+#[derive(Clone, Copy, Debug)]
+pub struct Fees<'a> {
+    /// The lowest opcode of each row.
+    pub lowest: &'a [u64],
+    /// The highest, not below it.
+    pub highest: &'a [u64],
+    /// Below 2^32, else the call is refused with 1.
+    pub fees: &'a [u64],
+}
+
 type Words = *const u64;
 type MutWords = *mut u64;
 
@@ -248,6 +265,54 @@ extern "C" {
         calls: *mut u8, _: usize, rows: MutWords, _: usize,
     ) -> u64;
 
+    // exports/src/calls.rt: triton_open_with_fees(registers, answer, revision, digest, cells, code, memory, lowest, highest, fees)
+    fn triton_open_with_fees(
+        registers: MutWords, _: usize, answer: MutWords, _: usize, revision: u64, digest: Words, _: usize, cells: u64,
+        opcodes: Words, _: usize, arguments: Words, _: usize, public: Words, _: usize, secret: Words, _: usize, digests: Words, _: usize,
+        op_stack: MutWords, _: usize, origins: MutWords, _: usize, destinations: MutWords, _: usize,
+        addresses: MutWords, _: usize, values: MutWords, _: usize, output: MutWords, _: usize,
+        lowest: Words, _: usize, highest: Words, _: usize, fees: Words, _: usize,
+    ) -> u64;
+
+    // exports/src/calls.rt: triton_step_with_fees(registers, answer, code, memory, calls, lowest, highest, fees)
+    fn triton_step_with_fees(
+        registers: MutWords, _: usize, answer: MutWords, _: usize,
+        opcodes: Words, _: usize, arguments: Words, _: usize, public: Words, _: usize, secret: Words, _: usize, digests: Words, _: usize,
+        op_stack: MutWords, _: usize, origins: MutWords, _: usize, destinations: MutWords, _: usize,
+        addresses: MutWords, _: usize, values: MutWords, _: usize, output: MutWords, _: usize,
+        calls: *mut u8, _: usize,
+        lowest: Words, _: usize, highest: Words, _: usize, fees: Words, _: usize,
+    ) -> u64;
+
+    // exports/src/calls.rt: triton_run_with_fees(registers, answer, budget, code, memory, lowest, highest, fees)
+    fn triton_run_with_fees(
+        registers: MutWords, _: usize, answer: MutWords, _: usize, budget: u64,
+        opcodes: Words, _: usize, arguments: Words, _: usize, public: Words, _: usize, secret: Words, _: usize, digests: Words, _: usize,
+        op_stack: MutWords, _: usize, origins: MutWords, _: usize, destinations: MutWords, _: usize,
+        addresses: MutWords, _: usize, values: MutWords, _: usize, output: MutWords, _: usize,
+        lowest: Words, _: usize, highest: Words, _: usize, fees: Words, _: usize,
+    ) -> u64;
+
+    // exports/src/calls.rt: triton_trace_execution_with_fees(registers, answer, budget, code, memory, calls, lowest, highest, fees)
+    fn triton_trace_execution_with_fees(
+        registers: MutWords, _: usize, answer: MutWords, _: usize, budget: u64,
+        opcodes: Words, _: usize, arguments: Words, _: usize, public: Words, _: usize, secret: Words, _: usize, digests: Words, _: usize,
+        op_stack: MutWords, _: usize, origins: MutWords, _: usize, destinations: MutWords, _: usize,
+        addresses: MutWords, _: usize, values: MutWords, _: usize, output: MutWords, _: usize,
+        calls: *mut u8, _: usize,
+        lowest: Words, _: usize, highest: Words, _: usize, fees: Words, _: usize,
+    ) -> u64;
+
+    // exports/src/calls.rt: triton_trace_rows_with_fees(registers, answer, budget, code, memory, calls, rows, lowest, highest, fees)
+    fn triton_trace_rows_with_fees(
+        registers: MutWords, _: usize, answer: MutWords, _: usize, budget: u64,
+        opcodes: Words, _: usize, arguments: Words, _: usize, public: Words, _: usize, secret: Words, _: usize, digests: Words, _: usize,
+        op_stack: MutWords, _: usize, origins: MutWords, _: usize, destinations: MutWords, _: usize,
+        addresses: MutWords, _: usize, values: MutWords, _: usize, output: MutWords, _: usize,
+        calls: *mut u8, _: usize, rows: MutWords, _: usize,
+        lowest: Words, _: usize, highest: Words, _: usize, fees: Words, _: usize,
+    ) -> u64;
+
     // exports/src/calls.rt: triton_helper_variables(registers, helpers, code, memory); all but the helpers are only read
     fn triton_helper_variables(
         registers: Words, _: usize, helpers: MutWords, _: usize,
@@ -271,8 +336,15 @@ extern "C" {
     ) -> u64;
 }
 
-// An export called with what stands before code and memory, these two, and what stands behind them.
+// An export called with what stands before code and memory, these two, and what stands behind them; a fee table last, where one is
+// handed in.
 macro_rules! call {
+    ($export:ident, [$($front:expr),*], $c:ident, $m:ident, $pointer:ident, [$($back:expr),*], $f:ident) => {
+        call!($export, [$($front),*], $c, $m, $pointer, [
+            $($back,)*
+            $f.lowest.as_ptr(), $f.lowest.len(), $f.highest.as_ptr(), $f.highest.len(), $f.fees.as_ptr(), $f.fees.len()
+        ])
+    };
     ($export:ident, [$($front:expr),*], $c:ident, $m:ident, $pointer:ident, [$($back:expr),*]) => {
         // SAFETY: each pointer goes with the length of its slice, which is borrowed for the call; the export asks for nothing else
         unsafe {
@@ -357,6 +429,54 @@ pub fn trace_rows(
     call!(triton_trace_rows,
         [registers.as_mut_ptr(), registers.len(), answer.as_mut_ptr(), answer.len(), budget],
         code, memory, as_mut_ptr, [log.as_mut_ptr(), log.len(), rows.as_mut_ptr(), rows.len()])
+}
+
+/// `triton_open_with_fees`: [`open`], which checks the fee table last of all and keeps nothing of it.
+#[rustfmt::skip]
+#[allow(clippy::too_many_arguments)]
+pub fn open_with_fees(
+    registers: &mut [u64], answer: &mut [u64], revision: u64, digest: &[u64], cells: u64, code: Code, memory: Memory, fees: Fees,
+) -> u64 {
+    call!(triton_open_with_fees,
+        [registers.as_mut_ptr(), registers.len(), answer.as_mut_ptr(), answer.len(), revision, digest.as_ptr(), digest.len(), cells],
+        code, memory, as_mut_ptr, [], fees)
+}
+
+/// `triton_step_with_fees`: [`step`], and the row that priced it ([`answer::ROW`]).
+#[rustfmt::skip]
+pub fn step_with_fees(registers: &mut [u64], answer: &mut [u64], code: Code, memory: Memory, calls: &mut [u8], fees: Fees) -> u64 {
+    call!(triton_step_with_fees,
+        [registers.as_mut_ptr(), registers.len(), answer.as_mut_ptr(), answer.len()],
+        code, memory, as_mut_ptr, [calls.as_mut_ptr(), calls.len()], fees)
+}
+
+/// `triton_run_with_fees`: [`run`], and the fee of the steps that succeeded ([`answer::FEE`]).
+#[rustfmt::skip]
+pub fn run_with_fees(registers: &mut [u64], answer: &mut [u64], budget: u64, code: Code, memory: Memory, fees: Fees) -> u64 {
+    call!(triton_run_with_fees,
+        [registers.as_mut_ptr(), registers.len(), answer.as_mut_ptr(), answer.len(), budget],
+        code, memory, as_mut_ptr, [], fees)
+}
+
+/// `triton_trace_execution_with_fees`: [`trace_execution`], and the fee of the steps that succeeded.
+#[rustfmt::skip]
+pub fn trace_execution_with_fees(
+    registers: &mut [u64], answer: &mut [u64], budget: u64, code: Code, memory: Memory, log: &mut [u8], fees: Fees,
+) -> u64 {
+    call!(triton_trace_execution_with_fees,
+        [registers.as_mut_ptr(), registers.len(), answer.as_mut_ptr(), answer.len(), budget],
+        code, memory, as_mut_ptr, [log.as_mut_ptr(), log.len()], fees)
+}
+
+/// `triton_trace_rows_with_fees`: [`trace_rows`], and the fee of the steps that succeeded.
+#[rustfmt::skip]
+#[allow(clippy::too_many_arguments)]
+pub fn trace_rows_with_fees(
+    registers: &mut [u64], answer: &mut [u64], budget: u64, code: Code, memory: Memory, log: &mut [u8], rows: &mut [u64], fees: Fees,
+) -> u64 {
+    call!(triton_trace_rows_with_fees,
+        [registers.as_mut_ptr(), registers.len(), answer.as_mut_ptr(), answer.len(), budget],
+        code, memory, as_mut_ptr, [log.as_mut_ptr(), log.len(), rows.as_mut_ptr(), rows.len()], fees)
 }
 
 /// `triton_helper_variables`: the six words of the next step.

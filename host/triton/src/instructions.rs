@@ -1,4 +1,5 @@
 //! The 46 instructions: opcode, name, argument, how the depth changes.
+use std::fmt::{Display, Formatter, Result};
 
 /// Which arguments an instruction takes.
 #[derive(Clone, Copy, PartialEq, Eq, Debug)]
@@ -112,6 +113,18 @@ pub fn decode(opcode: u64) -> Option<&'static Instruction> {
 /// The instruction of a name.
 pub fn named(name: &str) -> Option<&'static Instruction> {
     ALL.iter().find(|instruction| instruction.name == name)
+}
+
+/// An opcode as messages have it: the number, and the instruction's name where it has one.
+pub(crate) struct Named(pub u64);
+
+impl Display for Named {
+    fn fmt(&self, f: &mut Formatter) -> Result {
+        match decode(self.0) {
+            Some(instruction) => write!(f, "{} ({})", self.0, instruction.name),
+            Option::None => self.0.fmt(f),
+        }
+    }
 }
 
 impl Instruction {

@@ -1,5 +1,6 @@
 //! A job over memory of its own.
 use crate::exports::{self, answer, ending, register, Code, Memory, MemoryView, LONGEST, STEP_BYTES};
+use crate::fees::FeeTable;
 use crate::replay::{replay, Replayed};
 use crate::rows::{rows, Row, Rows};
 use crate::{Refusal, Revision};
@@ -133,6 +134,27 @@ impl Job {
     ///
     /// Where the linked library has another interface than this crate ([`check_interface`](exports::check_interface)).
     pub fn open(opening: &Opening, sizes: Sizes) -> Result<Job, Refusal> {
+        Job::opened(opening, sizes, exports::open)
+    }
+
+    /// [`open`](Self::open), which also looks at a fee table, last of all (numbers 64 to 66). The job keeps nothing of it: each call
+    /// with fees is handed one, this or another.
+    ///
+    /// # Panics
+    ///
+    /// As [`open`](Self::open) does.
+    pub fn open_with_fees(opening: &Opening, sizes: Sizes, fees: &FeeTable) -> Result<Job, Refusal> {
+        Job::opened(opening, sizes, |registers, answer, revision, digest, cells, code, memory| {
+            exports::open_with_fees(registers, answer, revision, digest, cells, code, memory, fees.slices())
+        })
+    }
+
+    /// By a call in the shape of [`exports::open`].
+    fn opened(
+        opening: &Opening,
+        sizes: Sizes,
+        open: impl Fn(&mut [u64], &mut [u64], u64, &[u64], u64, Code, Memory) -> u64,
+    ) -> Result<Job, Refusal> {
         need_interface();
         let (addresses, values) = cells(&opening.ram, sizes.ram);
         let mut job = Job {
@@ -155,7 +177,7 @@ impl Job {
         let mut answer = [0; answer::ALL];
         let (registers, code, memory, _) = job.parts();
         let (revision, cells) = (opening.revision.number(), opening.ram.len() as u64);
-        exports::open(registers, &mut answer, revision, &opening.digest, cells, code, memory);
+        open(registers, &mut answer, revision, &opening.digest, cells, code, memory);
         match ran(&answer).ending {
             Ending::Refused(refusal) => Err(refusal),
             _ => Ok(job),
@@ -217,6 +239,75 @@ impl Job {
         exports::trace_rows(registers, &mut answer, budget, code, memory, log, table);
         let ran = ran(&answer);
         (ran, rows(&table[..ran.steps as usize * Row::WORDS]))
+    }
+
+    /// [`step`](Self::step), and the row of the fee table that priced it, counted from 0. A step that is refused costs nothing, skiz's
+    /// too; a table that is not good is refused with 64 to 66, before place B.
+    pub fn step_with_fees(&mut self, fees: &FeeTable) -> Result<(&[u8], usize), Refusal> {
+        let mut answer = [0; answer::WITH_FEES];
+        let (registers, code, memory, calls) = self.parts();
+        exports::step_with_fees(registers, &mut answer, code, memory, calls, fees.slices());
+        let (ran, row) = priced(&answer);
+        match ran.ending {
+            Ending::Refused(refusal) => Err(refusal),
+            _ => Ok((&self.calls[..ran.bytes], row as usize)),
+        }
+    }
+
+    /// [`run`](Self::run), and the fee of the steps that succeeded, whatever ended it: the sum of their rows' fees. It does not depend
+    /// on how the steps are cut into calls. A table that is not good is refused with 64 to 66, also where the machine has halted.
+    ///
+    /// ```
+    /// use kixombu::{Ending, FeeRow, FeeTable, Job, Opening, Refusal, Sizes, Slot};
+    ///
+    /// // a step costs 2, and a hash 50
+    /// let row = |lowest, highest, fee| FeeRow { lowest, highest, fee };
+    /// let fees = FeeTable::new([row(0, 17, 2), row(18, 18, 50), row(19, 88, 2)]);
+    /// fees.check().unwrap();
+    ///
+    /// // push 3; pop 1; hash, for which the stack is too shallow
+    /// let slots = [(1, 3), (1, 3), (3, 1), (3, 1), (18, 0)];
+    /// let program = slots.map(|(opcode, argument)| Slot { opcode, argument }).to_vec();
+    /// let mut job = Job::open_with_fees(&Opening { program, ..Opening::default() }, Sizes::RUNJOB, &fees)?;
+    /// let (ran, fee) = job.run_with_fees(1, &fees);
+    /// assert_eq!((ran.ending, fee), (Ending::Spent, 2));
+    /// let (ran, fee) = job.run_with_fees(1_000, &fees);
+    /// assert_eq!((ran.ending, ran.steps, fee), (Ending::Refused(Refusal::OpStackTooShallow), 1, 2));
+    ///
+    /// // halt is in no row
+    /// let (ran, fee) = job.run_with_fees(1_000, &FeeTable::new([row(1, 88, 2)]));
+    /// assert_eq!((ran.ending, fee), (Ending::Refused(Refusal::OpcodeWithoutFee(0)), 0));
+    /// # Ok::<(), Refusal>(())
+    /// ```
+    pub fn run_with_fees(&mut self, budget: u64, fees: &FeeTable) -> (Ran, u64) {
+        let mut answer = [0; answer::WITH_FEES];
+        let (registers, code, memory, _) = self.parts();
+        exports::run_with_fees(registers, &mut answer, budget, code, memory, fees.slices());
+        priced(&answer)
+    }
+
+    /// [`trace_execution`](Self::trace_execution), and the fee of the steps that succeeded, as of
+    /// [`run_with_fees`](Self::run_with_fees).
+    pub fn trace_execution_with_fees(&mut self, budget: u64, log: &mut [u8], fees: &FeeTable) -> (Ran, u64) {
+        let mut answer = [0; answer::WITH_FEES];
+        let (registers, code, memory, _) = self.parts();
+        exports::trace_execution_with_fees(registers, &mut answer, budget, code, memory, log, fees.slices());
+        priced(&answer)
+    }
+
+    /// [`trace_rows`](Self::trace_rows), and the fee of the steps that succeeded, as of [`run_with_fees`](Self::run_with_fees).
+    pub fn trace_rows_with_fees<'a>(
+        &mut self,
+        budget: u64,
+        log: &mut [u8],
+        table: &'a mut [u64],
+        fees: &FeeTable,
+    ) -> (Ran, u64, Rows<'a>) {
+        let mut answer = [0; answer::WITH_FEES];
+        let (registers, code, memory, _) = self.parts();
+        exports::trace_rows_with_fees(registers, &mut answer, budget, code, memory, log, table, fees.slices());
+        let (ran, fee) = priced(&answer);
+        (ran, fee, rows(&table[..ran.steps as usize * Row::WORDS]))
     }
 
     /// The helper variables of the next step.
@@ -363,6 +454,11 @@ pub(crate) fn refusal(number: u64, words: [u64; 3]) -> Refusal {
 pub(crate) fn need_interface() {
     static ONCE: Once = Once::new();
     ONCE.call_once(|| exports::check_interface().unwrap_or_else(|text| panic!("{text}")));
+}
+
+/// Of an answer with a fee table: the run, and the row or the fee.
+fn priced(answer: &[u64; answer::WITH_FEES]) -> (Ran, u64) {
+    (ran(&std::array::from_fn(|place| answer[place])), answer[answer::FEE])
 }
 
 fn ran(answer: &[u64; answer::ALL]) -> Ran {

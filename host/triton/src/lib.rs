@@ -28,10 +28,15 @@
 //! # Ok::<(), Refusal>(())
 //! ```
 //!
-//! [`text`] makes job files from text, [`JobFile`] reads them, [`listing`] prints a job as document 01's runjob does and
-//! [`Profile`] counts what ran; the command `kixombu` has all four. [`exports`] has the calls on slices, and step over a register record, for who lends memory
-//! of their own.
+//! With a [`FeeTable`], [`Job::run_with_fees`] and the other calls with fees also give what the steps cost, and
+//! [`Job::step_with_fees`] names the row that priced a step.
+//!
+//! [`text`] makes job files from text, [`JobFile`] reads them, [`listing`] prints a job as document 01's runjob does, [`Profile`]
+//! counts what ran and [`fee_text`] reads fee tables; the command `kixombu` has all five. [`exports`] has the calls on slices, and
+//! step over a register record, for who lends memory of their own.
 pub mod exports;
+pub mod fee_text;
+mod fees;
 pub mod frame;
 pub mod instructions;
 mod job;
@@ -48,6 +53,7 @@ mod rows;
 pub mod text;
 
 pub use exports::{LONGEST, STEP_BYTES};
+pub use fees::{FeeFault, FeeRow, FeeTable};
 pub use frame::Fault;
 pub use job::{Ending, Job, Opening, Ran, Sizes, Slot};
 pub use job_file::JobFile;

@@ -1,4 +1,5 @@
 //! What document 01's runjob prints, and a job's records and rows piece by piece.
+use crate::fees::FeeTable;
 use crate::job::{Ending, Job, Ran, Sizes};
 use crate::job_file::JobFile;
 use crate::records::{records, Record};
@@ -18,9 +19,25 @@ pub enum Printed {
 
 /// Prints the job of a file, byte for byte as runjob does: stack lines, output lines, end line. `watch` is told now and then how
 /// many steps were taken.
-pub fn print(file: &[u8], out: &mut impl Write, mut watch: impl FnMut(u64)) -> Result<Printed> {
+pub fn print(file: &[u8], out: &mut impl Write, watch: impl FnMut(u64)) -> Result<Printed> {
+    print_job(file, None, out, watch)
+}
+
+/// The same with a fee table, and behind the end line the fee of the run's steps, however it ended: `fee 7`. A job that does not open,
+/// since the table is refused or for another reason, has none.
+pub fn print_with_fees(file: &[u8], fees: &FeeTable, out: &mut impl Write, watch: impl FnMut(u64)) -> Result<Printed> {
+    print_job(file, Some(fees), out, watch)
+}
+
+fn print_job(file: &[u8], fees: Option<&FeeTable>, out: &mut impl Write, mut watch: impl FnMut(u64)) -> Result<Printed> {
     let opened = JobFile::read(file).map_err(|_| Refusal::JobFileBroken);
-    let opened = opened.and_then(|file| Ok((Job::open(&file.opening, Sizes::RUNJOB)?, file.budget)));
+    let opened = opened.and_then(|JobFile { opening, budget }| {
+        let job = match fees {
+            None => Job::open(&opening, Sizes::RUNJOB),
+            Some(fees) => Job::open_with_fees(&opening, Sizes::RUNJOB, fees),
+        };
+        Ok((job?, budget))
+    });
     let (mut job, budget) = match opened {
         Ok(opened) => opened,
         Err(refusal) => {
@@ -28,7 +45,7 @@ pub fn print(file: &[u8], out: &mut impl Write, mut watch: impl FnMut(u64)) -> R
             return Ok(Printed::NotOpened(refusal));
         }
     };
-    let ran = trace_in_pieces(&mut job, budget.into(), |bytes, steps| {
+    let (ran, fee) = in_pieces(&mut job, budget.into(), 0, fees, |bytes, _, steps| {
         watch(steps);
         for record in records(bytes) {
             let record = record.map_err(Error::other)?;
@@ -45,6 +62,9 @@ pub fn print(file: &[u8], out: &mut impl Write, mut watch: impl FnMut(u64)) -> R
         _ => "spent".to_string(),
     };
     writeln!(out, "end {outcome} {} {} {}", ran.steps, job.instruction_pointer(), job.op_stack().len())?;
+    if fees.is_some() {
+        writeln!(out, "fee {fee}")?;
+    }
     Ok(Printed::Ran(ran.ending))
 }
 
@@ -58,31 +78,68 @@ const PIECE_TIME: Duration = Duration::from_millis(200);
 /// Runs a job to its budget in pieces, so that its log may be of any length. `each` gets the records of a piece and the steps
 /// taken so far; its error ends the run.
 pub fn trace_in_pieces(job: &mut Job, budget: u64, mut each: impl FnMut(&[u8], u64) -> Result<()>) -> Result<Ran> {
-    in_pieces(job, budget, 0, |log, _, steps| each(log, steps))
+    Ok(in_pieces(job, budget, 0, None, |log, _, steps| each(log, steps))?.0)
 }
 
-/// The same with the rows of the processor table: `each` gets the records of a piece, its rows and the steps taken so far.
+/// The same with a fee table: also the fee of all steps that succeeded.
+pub fn trace_in_pieces_with_fees(
+    job: &mut Job,
+    budget: u64,
+    fees: &FeeTable,
+    mut each: impl FnMut(&[u8], u64) -> Result<()>,
+) -> Result<(Ran, u64)> {
+    in_pieces(job, budget, 0, Some(fees), |log, _, steps| each(log, steps))
+}
+
+/// [`trace_in_pieces`] with the rows of the processor table: `each` gets the records of a piece, its rows and the steps taken so far.
 pub fn rows_in_pieces(job: &mut Job, budget: u64, each: impl FnMut(&[u8], Rows, u64) -> Result<()>) -> Result<Ran> {
-    in_pieces(job, budget, PIECE_ROWS, each)
+    Ok(in_pieces(job, budget, PIECE_ROWS, None, each)?.0)
 }
 
-/// With a table of so many rows; without one there are none.
-fn in_pieces(job: &mut Job, budget: u64, most_rows: usize, mut each: impl FnMut(&[u8], Rows, u64) -> Result<()>) -> Result<Ran> {
+/// The same with a fee table too: also the fee of all steps that succeeded.
+pub fn rows_in_pieces_with_fees(
+    job: &mut Job,
+    budget: u64,
+    fees: &FeeTable,
+    each: impl FnMut(&[u8], Rows, u64) -> Result<()>,
+) -> Result<(Ran, u64)> {
+    in_pieces(job, budget, PIECE_ROWS, Some(fees), each)
+}
+
+/// With a table of so many rows; without one there are none. The fee is 0 without a fee table.
+fn in_pieces(
+    job: &mut Job,
+    budget: u64,
+    most_rows: usize,
+    fees: Option<&FeeTable>,
+    mut each: impl FnMut(&[u8], Rows, u64) -> Result<()>,
+) -> Result<(Ran, u64)> {
     let (mut log, mut table) = (vec![0; PIECE_BYTES], vec![0; most_rows * Row::WORDS]);
     let mut piece: u64 = 10_000;
     let mut all = Ran { ending: Ending::Spent, steps: 0, bytes: 0 };
+    let mut all_fees = 0;
     loop {
         let began = Instant::now();
         let budget_left = piece.min(budget - all.steps);
-        let (ran, rows) = match most_rows {
-            0 => (job.trace_execution(budget_left, &mut log), rows(&[])),
-            _ => job.trace_rows(budget_left, &mut log, &mut table),
+        let (ran, fee, rows) = match (most_rows, fees) {
+            (0, None) => (job.trace_execution(budget_left, &mut log), 0, rows(&[])),
+            (0, Some(fees)) => {
+                let (ran, fee) = job.trace_execution_with_fees(budget_left, &mut log, fees);
+                (ran, fee, rows(&[]))
+            }
+            (_, None) => {
+                let (ran, rows) = job.trace_rows(budget_left, &mut log, &mut table);
+                (ran, 0, rows)
+            }
+            (_, Some(fees)) => job.trace_rows_with_fees(budget_left, &mut log, &mut table, fees),
         };
         if began.elapsed() < PIECE_TIME {
             // pieces that end by a full log or table may be many
             piece = piece.saturating_mul(2);
         }
         all = Ran { ending: ran.ending, steps: all.steps + ran.steps, bytes: all.bytes + ran.bytes };
+        // the clock bounds the steps of all pieces together, so that 64 bits suffice
+        all_fees += fee;
         each(&log[..ran.bytes], rows, all.steps)?;
         let goes_on = match ran.ending {
             Ending::Spent => all.steps < budget,
@@ -90,7 +147,7 @@ fn in_pieces(job: &mut Job, budget: u64, most_rows: usize, mut each: impl FnMut(
             Ending::Halted | Ending::Refused(_) => false,
         };
         if !goes_on {
-            return Ok(all);
+            return Ok((all, all_fees));
         }
     }
 }

@@ -1,7 +1,8 @@
 //! kixombu: jobs and their logs on the command line.
 #![forbid(unsafe_code)]
+use kixombu::fee_text::{self, FeeText};
 use kixombu::instructions::decode;
-use kixombu::listing::{print, rows_in_pieces, trace_in_pieces, Printed};
+use kixombu::listing::{print, print_with_fees, rows_in_pieces, trace_in_pieces, Printed};
 use kixombu::{
     exports, records, records_of, replay, text, Ending, Job, JobFile, Opening, OutOfOrder, Profile, Refusal, Revision, Row, Rows,
     Sizes, LONGEST,
@@ -16,7 +17,7 @@ use std::time::{Duration, Instant};
 
 const HELP: &str = "\
 kixombu make TEXT [JOB]                    a job file from text
-kixombu run JOB                            runs a job and lists it as runjob does
+kixombu run JOB [--fees FEES]              runs a job and lists it as runjob does; with a fee table also what its steps cost
 kixombu record JOB LOG [REVISION]          runs a job and writes its call log
 kixombu replay JOB LOG CLOCK [REVISION]    replays a log from the job's opening RAM up to a clock: depth, cells, stack, RAM
 kixombu show LOG                           a log's records, one to a line
@@ -30,6 +31,11 @@ A text has one item to a line or between semicolons, and remarks behind #:
     push 3; call loop; halt
     loop: addi -1; dup 0; skiz; recurse; return
 Also slot OPCODE ARGUMENT, a slot as it is, and byte N. The digest comes first; ram's addresses ascend; -1 stands for p - 1.
+A fee table is a text with one row to a line or between semicolons, and remarks behind #: an opcode or LOWEST..HIGHEST, both in
+it, as numbers or as instructions' names, and the fee, up to 4294967295. It has up to 64 rows, and each opcode lies in one:
+    halt 0
+    push..pick 1; hash 50; 19..100 2
+run prints behind its last line what the steps that succeeded cost, however the job ended: fee 53.
 A log's revision is 1, or 2, in which tip5 and u32 records have a clock; without REVISION it is 1. show reads both.
 A row is the machine before a step that succeeds, the halt's too: CLK IP CI NIA IB0 to IB6 JSP JSO JSD ST0 to ST15
 OpStackPointer HV0 to HV5. The table has the instruction's name in front; CSV has a line of the columns' names and no name.
@@ -40,8 +46,8 @@ U32, for each distinct u32 record 1 where its larger operand, of pow the right o
 A job is lent 4,096 op stack words, 1,024 jump stack entries, 4,096 RAM cells and 4,096 output words; without a budget it
 may take 16,000,000 steps.
 
-Exit status: 0 done, or the job halted, or who reads the output has closed it; 1 the job or the log is refused, or the text
-is bad; 2 bad usage, or a file that cannot be read or written; 3 the job's budget is spent.";
+Exit status: 0 done, or the job halted, or who reads the output has closed it; 1 the job, the log or the fee table is refused,
+or a text is bad; 2 bad usage, or a file that cannot be read or written; 3 the job's budget is spent.";
 
 /// Why there is nothing to show, and the exit status.
 struct Failure(u8, String);
@@ -82,7 +88,8 @@ fn dispatch(words: &[&OsStr]) -> Outcome {
         ("--version", []) => say(&format!("kixombu {}", env!("CARGO_PKG_VERSION"))),
         ("make", [text]) => make(text, OsStr::new("-")),
         ("make", [text, job]) => make(text, job),
-        ("run", [job]) => run(job),
+        ("run", [job]) => run(job, None),
+        ("run", [job, option, fees]) if *option == "--fees" => run(job, Some(fees)),
         ("record", [job, log, rest @ ..]) if rest.len() < 2 => record(job, log, revision(rest)?),
         ("replay", [job, log, clock, rest @ ..]) if rest.len() < 2 => replay_to(job, log, clock, revision(rest)?),
         ("show", [log]) => show(log),
@@ -108,13 +115,7 @@ fn say(text: &str) -> Outcome {
 }
 
 fn make(text_name: &OsStr, job_name: &OsStr) -> Outcome {
-    let bytes = read(text_name, LONGEST)?;
-    let bad = |what: &dyn Display| of(1, text_name, what);
-    if bytes.len() > LONGEST {
-        return Err(bad(&format!("a text has at most {LONGEST} bytes, this one has more")));
-    }
-    let text = String::from_utf8(bytes).map_err(|_| bad(&"the text is not UTF-8"))?;
-    let made = text::make(&text).map_err(|fault| bad(&fault))?;
+    let made = text::make(&read_text(text_name)?).map_err(|fault| of(1, text_name, fault))?;
     for warning in &made.warnings {
         note(format!("warning: {}: {warning}", Path::new(text_name).display()));
     }
@@ -123,20 +124,45 @@ fn make(text_name: &OsStr, job_name: &OsStr) -> Outcome {
     Ok(0)
 }
 
-fn run(job_name: &OsStr) -> Outcome {
+fn run(job_name: &OsStr, fees_name: Option<&OsStr>) -> Outcome {
+    let fees = match fees_name {
+        Some(name) => Some((name, fee_table(name)?)),
+        None => None,
+    };
     let file = read(job_name, JobFile::MOST_BYTES)?;
     let job_file = job_file(job_name, &file);
     let mut progress = Progress::new(job_file.as_ref().map_or(0, |file| file.budget.into()));
     let mut out = BufWriter::with_capacity(1 << 16, io::stdout().lock());
-    let printed = print(&file, &mut out, |steps| progress.show(steps)).and_then(|printed| out.flush().map(|()| printed))?;
+    let watch = |steps| progress.show(steps);
+    let printed = match &fees {
+        None => print(&file, &mut out, watch),
+        Some((_, fees)) => print_with_fees(&file, fees.table(), &mut out, watch),
+    };
+    let printed = printed.and_then(|printed| out.flush().map(|()| printed))?;
     match printed {
         Printed::NotOpened(Refusal::JobFileBroken) => job_file.map(|_| 1),
         Printed::NotOpened(refusal) => {
+            // the table is looked at last, so that nothing else is wrong where it is refused
+            if let (64..=66, Some((name, fees))) = (refusal.number(), &fees) {
+                return Err(bad_fees(name, refusal, fees));
+            }
             let ram = job_file.map_or(vec![], |file| file.opening.ram);
             Err(not_opened(job_name, refusal, &ram))
         }
         Printed::Ran(Ending::Refused(refusal)) => Err(of(1, job_name, refusal)),
         Printed::Ran(ending) => Ok(ended(ending)),
+    }
+}
+
+fn fee_table(name: &OsStr) -> Result<FeeText, Failure> {
+    fee_text::read(&read_text(name)?).map_err(|fault| of(1, name, fault))
+}
+
+/// Names the row at fault. There is none where an opcode lies in no row, which the refusal names.
+fn bad_fees(name: &OsStr, refusal: Refusal, fees: &FeeText) -> Failure {
+    match fees.check() {
+        Err(fault) if !fault.word.is_empty() => of(1, name, format!("{refusal}; {fault}")),
+        _ => of(1, name, refusal),
     }
 }
 
@@ -329,6 +355,14 @@ fn read(name: &OsStr, most: usize) -> Result<Vec<u8>, Failure> {
     };
     read.map_err(|error| at(name, error))?;
     Ok(bytes)
+}
+
+fn read_text(name: &OsStr) -> Result<String, Failure> {
+    let bytes = read(name, LONGEST)?;
+    if bytes.len() > LONGEST {
+        return Err(of(1, name, format!("a text has at most {LONGEST} bytes, this one has more")));
+    }
+    String::from_utf8(bytes).map_err(|_| of(1, name, "the text is not UTF-8"))
 }
 
 fn create(name: &OsStr) -> Result<Box<dyn Write>, Failure> {

@@ -1,4 +1,5 @@
 //! Why a call is turned down: the numbers of documents 01 and 02 under their names.
+use crate::instructions::Named;
 use std::error::Error;
 use std::fmt::{Display, Formatter, Result};
 
@@ -99,6 +100,15 @@ pub enum Refusal {
     /// 50: no call's; a job file that is broken.
     JobFileBroken,
 
+    /// 64, behind place A: a fee table of over 64 rows, or with a row whose lowest opcode is above its highest;
+    /// [`FeeTable::check`](crate::FeeTable::check) says which.
+    BadFeeTable,
+    /// 65, behind place A: the lowest opcode that lies in no row of the fee table.
+    OpcodeWithoutFee(u64),
+    /// 66, behind place A: the lowest opcode that lies in two rows of the fee table or more;
+    /// [`FeeTable::check`](crate::FeeTable::check) says in which.
+    OpcodeWithTwoFees(u64),
+
     /// A number that this crate does not know, of a library with more refusals.
     Unknown {
         /// As the library gave it.
@@ -145,6 +155,9 @@ impl Refusal {
             44 => SliceFull,
             45 => NotOneStep,
             50 => JobFileBroken,
+            64 => BadFeeTable,
+            65 => OpcodeWithoutFee(words[0]),
+            66 => OpcodeWithTwoFees(words[0]),
             0 => return None,
             _ => Unknown { number, words },
         })
@@ -193,6 +206,9 @@ impl Refusal {
             SliceFull => (44, "SliceFull"),
             NotOneStep => (45, "NotOneStep"),
             JobFileBroken => (50, "JobFileBroken"),
+            BadFeeTable => (64, "BadFeeTable"),
+            OpcodeWithoutFee(_) => (65, "OpcodeWithoutFee"),
+            OpcodeWithTwoFees(_) => (66, "OpcodeWithTwoFees"),
             Unknown { number, .. } => (number, "Unknown"),
         }
     }
@@ -202,6 +218,7 @@ impl Refusal {
         match self {
             FailedU32Conversion(word) => [word, 0, 0],
             EmptyPublicInput(left) | EmptySecretInput(left) => [left, 0, 0],
+            OpcodeWithoutFee(opcode) | OpcodeWithTwoFees(opcode) => [opcode, 0, 0],
             AssertionFailed { expected, actual } => [expected, actual, 0],
             VectorAssertionFailed { index, expected, actual } => [index, expected, actual],
             Unknown { words, .. } => words,
@@ -252,6 +269,13 @@ impl Display for Refusal {
             SliceFull => write!(f, "a write needs a word or a cell more than were lent"),
             NotOneStep => write!(f, "the records of one clock must be at most ten of the stack, all one way, and ten of RAM"),
             JobFileBroken => write!(f, "the job file is broken"),
+            BadFeeTable => write!(f, "a fee table has at most 64 rows, and none with its lowest opcode above its highest"),
+            OpcodeWithoutFee(opcode) => {
+                write!(f, "every opcode must lie in a row of the fee table, found {} in none", Named(opcode))
+            }
+            OpcodeWithTwoFees(opcode) => {
+                write!(f, "an opcode must lie in one row of the fee table, found {} in two or more", Named(opcode))
+            }
             Unknown { words: [a, b, c], .. } => {
                 write!(f, "a refusal that this crate does not know, with the words {a}, {b}, {c}")
             }
@@ -265,9 +289,11 @@ impl Error for Refusal {}
 mod tests {
     use super::Refusal;
 
-    /// Document 01's table, and 45 of document 02.
-    const NUMBERS: [u64; 31] =
-        [1, 2, 3, 4, 5, 10, 11, 12, 13, 14, 15, 16, 17, 18, 19, 20, 21, 22, 23, 30, 31, 32, 33, 34, 40, 41, 42, 43, 44, 45, 50];
+    /// Document 01's table, and 45 and 64 to 66 of document 02.
+    #[rustfmt::skip]
+    const NUMBERS: [u64; 34] = [
+        1, 2, 3, 4, 5, 10, 11, 12, 13, 14, 15, 16, 17, 18, 19, 20, 21, 22, 23, 30, 31, 32, 33, 34, 40, 41, 42, 43, 44, 45, 50, 64, 65, 66,
+    ];
 
     #[test]
     fn numbers_and_words_come_back() {
@@ -288,12 +314,12 @@ mod tests {
         assert_eq!(unknown.to_string(), text);
     }
 
-    /// Which refusals carry words is document 01's place C.
+    /// Which refusals carry words is document 01's place C, and document 02's fee table.
     #[test]
     fn words_are_carried_as_said() {
         for number in NUMBERS {
             let carried = match number {
-                13..=15 => [7, 0, 0],
+                13..=15 | 65 | 66 => [7, 0, 0],
                 18 => [7, 8, 0],
                 19 => [7, 8, 9],
                 _ => [0; 3],
@@ -329,5 +355,11 @@ mod tests {
             text(19, [1, 12, 13]),
             "VectorAssertionFailed (19): assert_vector needs ST6 equal to ST1, which is 12, found 13"
         );
+        let every = "every opcode must lie in a row of the fee table";
+        assert_eq!(text(65, [0; 3]), format!("OpcodeWithoutFee (65): {every}, found 0 (halt) in none"));
+        let one = "an opcode must lie in one row of the fee table";
+        assert_eq!(text(66, [8, 0, 0]), format!("OpcodeWithTwoFees (66): {one}, found 8 (nop) in two or more"));
+        // the library names none that is no opcode
+        assert_eq!(text(66, [7, 0, 0]), format!("OpcodeWithTwoFees (66): {one}, found 7 in two or more"));
     }
 }

@@ -355,16 +355,92 @@ U32                            0
     assert_eq!(heights, ["15", "23", "3", "7", "10"]);
 }
 
+/// The listing, and behind it the fee: of a job that halts, that is refused and that is spent.
+#[test]
+fn fees_of_a_run() {
+    let fees = Temporary::new("run.fees");
+    std::fs::write(&fees.0, "halt 10000 # the end\npush..pick 1; hash 5000\n19..88 100\n").unwrap();
+    for (name, fee, status) in [
+        // push, push, add, write_io, halt
+        ("add", 1 + 1 + 100 + 100 + 10_000, 0),
+        // push, push, add; the assert is refused
+        ("assert", 1 + 1 + 100, 1),
+        // call, and then push, pop and recurse in turn
+        ("spent", 100 + 333 * (1 + 1 + 100), 3),
+    ] {
+        let plain = kixombu(&["run", &job(&format!("{name}.job"))], b"");
+        let output = kixombu(&["run", &job(&format!("{name}.job")), "--fees", fees.name()], b"");
+        assert_eq!(text(&output.stdout), format!("{}fee {fee}\n", text(&plain.stdout)), "{name}");
+        ends(&output, status, &text(&plain.stderr));
+        assert_eq!(output.status.code(), plain.status.code(), "{name}");
+    }
+    // more than 32 bits, in many pieces
+    let made = kixombu(&["make", "-"], b"digest 1 2 3 4 5; budget 5000001; call f; f: recurse").stdout;
+    std::fs::write(&fees.0, "0..18446744073709551615 4294967295").unwrap();
+    let output = kixombu(&["run", "-", "--fees", fees.name()], &made);
+    let listing = format!("end spent 5000001 2 16\nfee {}\n", 5_000_001 * 4_294_967_295_u64);
+    assert_eq!((text(&output.stdout), output.status.code()), (listing, Some(3)));
+}
+
+/// A table that cannot be read ends the command before the job; one that the library refuses is its opening's refusal, behind the job's.
+#[test]
+fn bad_fee_tables() {
+    let run = |name: &str, fees: &str| kixombu(&["run", &job(name), "--fees", "-"], fees.as_bytes());
+    let output = run("add.job", "halt 0\npush..adi 1");
+    ends(&output, 1, "kixombu: -: line 2, `adi`: an opcode is a number or an instruction's name\n");
+    assert_eq!(output.stdout, b"");
+    ends(&kixombu(&["run", &job("add.job"), "--fees", "-"], &[0xff]), 1, "kixombu: -: the text is not UTF-8\n");
+    let output = kixombu(&["run", &job("add.job"), "--fees", "/nowhere/fees"], b"");
+    ends(&output, 2, "kixombu: /nowhere/fees: No such file or directory (os error 2)\n");
+    ends(
+        &kixombu(&["run", &job("add.job"), "--fees", "/dev/zero"], b""),
+        1,
+        "kixombu: /dev/zero: a text has at most 16777216 bytes, this one has more\n",
+    );
+
+    let turned = "BadFeeTable (64): a fee table has at most 64 rows, and none with its lowest opcode above its highest";
+    let none = "OpcodeWithoutFee (65): every opcode must lie in a row of the fee table, found 88 (xb_dot_step) in none";
+    let two = "OpcodeWithTwoFees (66): an opcode must lie in one row of the fee table, found 18 (hash) in two or more";
+    for (fees, number, said) in [
+        ("0..88 1\n9..pop 1", 64, format!("{turned}; line 2, `9..pop`: the row's lowest opcode, 9, is above its highest, 3")),
+        ("0..87 1", 65, none.to_string()),
+        ("0..88 1\n18 50", 66, format!("{two}; line 2, `18`: line 1 has opcode 18 (hash) already")),
+    ] {
+        let output = run("add.job", fees);
+        ends(&output, 1, &format!("kixombu: -: {said}\n"));
+        assert_eq!(text(&output.stdout), format!("end refused {number} 0 0 0\n"));
+        // what is wrong with the job comes first
+        for (name, number) in [("not_a_word.job", 2), ("unsorted_ram.job", 5), ("broken.job", 50)] {
+            let (output, plain) = (run(name, fees), kixombu(&["run", &job(name)], b""));
+            assert_eq!(text(&output.stdout), format!("end refused {number} 0 0 0\n"), "{name}");
+            ends(&output, 1, &text(&plain.stderr));
+        }
+    }
+}
+
 #[test]
 fn usage() {
     let output = kixombu(&["--help"], b"");
     ends(&output, 0, "");
-    ["make TEXT", "run JOB", "record JOB LOG", "replay JOB LOG CLOCK", "show LOG", "rows JOB", "profile JOB", "Exit status"]
-        .iter()
-        .for_each(|part| assert!(text(&output.stdout).contains(part), "{part}"));
+    [
+        "make TEXT",
+        "run JOB [--fees FEES]",
+        "record JOB LOG",
+        "replay JOB LOG CLOCK",
+        "show LOG",
+        "rows JOB",
+        "profile JOB",
+        "Exit status",
+    ]
+    .iter()
+    .for_each(|part| assert!(text(&output.stdout).contains(part), "{part}"));
     assert_eq!(text(&kixombu(&["--version"], b"").stdout), "kixombu 0.1.0\n");
     ends(&kixombu(&["jump"], b""), 2, "kixombu: jump: no such verb; see kixombu --help\n");
-    ends(&kixombu(&["run"], b""), 2, "kixombu: usage: kixombu run JOB\n");
+    let run = "kixombu: usage: kixombu run JOB [--fees FEES]\n";
+    for words in [&["run"][..], &["run", "a", "b"], &["run", "a", "--fees"], &["run", "--fees", "a"], &["run", "a", "--fee", "b"]]
+    {
+        ends(&kixombu(words, b""), 2, run);
+    }
     ends(&kixombu(&["rows", "a", "--tsv"], b""), 2, "kixombu: usage: kixombu rows JOB [--csv]\n");
     ends(&kixombu(&["profile"], b""), 2, "kixombu: usage: kixombu profile JOB\n");
     ends(&kixombu(&["make", "a", "b", "c"], b""), 2, "kixombu: usage: kixombu make TEXT [JOB]\n");

@@ -3,7 +3,7 @@ mod common;
 
 use common::{folder, names, read};
 use kixombu::text::make;
-use kixombu::{bytes_of, records, replay, Job, JobFile, Opening, Record, Revision, Sizes};
+use kixombu::{bytes_of, records, replay, FeeRow, FeeTable, Job, JobFile, Opening, Record, Revision, Sizes};
 use std::process::{Command, Stdio};
 
 #[test]
@@ -106,10 +106,21 @@ fn a_small_stack_suffices() {
             let replayed = traced.replay(&log[..trace.bytes], u64::MAX);
             let rows = with_rows.trace_rows(u64::MAX, &mut log, &mut table).0;
             let row = with_rows.processor_row();
-            (ran.ending == trace.ending, rows == trace, helpers.is_ok(), row.is_ok(), replayed.is_ok())
+            let fees = FeeTable::new([FeeRow { lowest: 0, highest: 88, fee: 1 }]);
+            let mut opened = Job::open_with_fees(&file.opening, Sizes::RUNJOB, &fees).unwrap();
+            opened.step_with_fees(&fees).unwrap();
+            let (mut priced, mut traced) = (Box::new(opened.clone()), Box::new(opened));
+            let mut with_rows = traced.clone();
+            let fees = [
+                priced.run_with_fees(u64::MAX, &fees).1,
+                traced.trace_execution_with_fees(u64::MAX, &mut log, &fees).1,
+                with_rows.trace_rows_with_fees(u64::MAX, &mut log, &mut table, &fees).1,
+            ];
+            let agree = [ran.ending == trace.ending, rows == trace, fees == [ran.steps - 1; 3]];
+            (agree, helpers.is_ok(), row.is_ok(), replayed.is_ok())
         };
         let small = std::thread::Builder::new().stack_size(SMALL_STACK);
-        assert_eq!(small.spawn(calls).unwrap().join().unwrap(), (true, true, true, true, true), "{name}");
+        assert_eq!(small.spawn(calls).unwrap().join().unwrap(), ([true; 3], true, true, true), "{name}");
     }
     // more addresses than the table holds
     let write = |i: u64| Record::Ram { clock: i as u32, address: i * 0x9e37_79b9 % 0x7fff_ffff, value: i, write: true };

@@ -1,6 +1,9 @@
 -- `exports_calls::open::open_call` meets its contract. Assumes nothing.
-use borrow.Author.Needs.{needs}
+use Rattle.machine.specs.FeeTable.{unpriced}
+use Rattle.exports_words.proofs.CallsLaws.{answered}
 use Rattle.exports_calls.proofs.OpenCallLaws.{open-fits-facts, open-called, open-misfits}
+use native.Mathlib.Omega.{arith}
+use borrow.Author.Needs.{needs}
 use Rattle.exports_calls.proofs.open.open_call.Statement.{statement}
 use Rattle.exports_calls.proofs.open.open_call.Tie as tie
 
@@ -8,7 +11,8 @@ open-fits-requires : tie.Need-open-fits-requires
 open-fits-requires c κs = search needs
 
 read-digest-requires : tie.Need-read-digest-requires
-read-digest-requires c κs = open-fits-facts _ _ _ (c .before .open-fits .ensures) (c .if1 .taken) .digest
+read-digest-requires c κs =
+    open-fits-facts _ _ _ (c .before .open-fits .ensures) (c .if1 .taken) .digest
 
 open-requires : tie.Need-open-requires
 open-requires c κs = search needs
@@ -17,10 +21,12 @@ open-report-requires : tie.Need-open-report-requires
 open-report-requires c κs = search needs
 
 write-opened-requires : tie.Need-write-opened-requires
-write-opened-requires c κs = open-fits-facts _ _ _ (c .before .before .before .before .before .before .before .before .before .before .before .before .before .before .open-fits .ensures) (c .before .before .before .before .before .before .before .before .before .before .before .before .before .if1 .taken) .registers
+write-opened-requires c κs =
+    open-fits-facts _ _ _ (c .before .before .before .before .before .before .before .before .before .before .before .before .before .before .open-fits .ensures) (c .before .before .before .before .before .before .before .before .before .before .before .before .before .if1 .taken) .registers
 
 write-answer-requires : tie.Need-write-answer-requires
-write-answer-requires c κs = open-fits-facts _ _ _ (c .before .before .before .before .before .before .before .before .before .before .before .before .before .before .before .before .before .before .open-fits .ensures) (c .before .before .before .before .before .before .before .before .before .before .before .before .before .before .before .before .before .if1 .taken) .answer
+write-answer-requires c κs =
+    omega (arith, open-fits-facts _ _ _ (c .before .before .before .before .before .before .before .before .before .before .before .before .before .before .before .before .before .before .open-fits .ensures) (c .before .before .before .before .before .before .before .before .before .before .before .before .before .before .before .before .before .if1 .taken) .answer)
 
 turn-down-requires : tie.Need-turn-down-requires
 turn-down-requires c κs = search needs
@@ -42,7 +48,7 @@ same-length-5 c = search needs
 
 returns : tie.Need-returns
 returns c =
-    open-called _ _ _ _ _ _ _ (c .before .before .before .before .before .before .before .before .before .before .before .before .before .before .before .before .before .before .before .before .before .open-fits .ensures) (c .before .before .before .before .before .before .before .before .before .before .before .before .before .before .before .before .before .before .before .before .if1 .taken) (c .before .before .before .before .before .before .before .before .before .before .before .before .before .before .before .before .before .before .before .read-digest .ensures) (c .before .before .before .before .before .before .before .before .before .before .before .before .before .before .before .«open» .ensures) (c .before .before .before .before .before .before .before .before .open-report .ensures) (c .before .before .before .before .before .before .write-opened .ensures) (c .before .before .write-answer .ensures)
+    open-called unpriced _ _ _ _ _ _ _ (c .before .before .before .before .before .before .before .before .before .before .before .before .before .before .before .before .before .before .before .before .before .open-fits .ensures) (c .before .before .before .before .before .before .before .before .before .before .before .before .before .before .before .before .before .before .before .before .if1 .taken) (c .before .before .before .before .before .before .before .before .before .before .before .before .before .before .before .before .before .before .before .read-digest .ensures) (c .before .before .before .before .before .before .before .before .before .before .before .before .before .before .before .«open» .ensures) (c .before .before .before .before .before .before .before .before .open-report .ensures) (c .before .before .before .before .before .before .write-opened .ensures) (answered _ (open-fits-facts _ _ _ (c .before .before .before .before .before .before .before .before .before .before .before .before .before .before .before .before .before .before .before .before .before .open-fits .ensures) (c .before .before .before .before .before .before .before .before .before .before .before .before .before .before .before .before .before .before .before .before .if1 .taken) .answer) (c .before .before .write-answer .ensures))
 
 same-length-6 : tie.Need-same-length-6
 same-length-6 c = search needs
@@ -51,7 +57,8 @@ same-length-7 : tie.Need-same-length-7
 same-length-7 c = search needs
 
 returns-2 : tie.Need-returns-2
-returns-2 c = open-misfits _ _ _ _ _ _ _ (c .before .before .before .before .before .open-fits .ensures) (c .before .before .before .before .if1 .left) (c .before .before .turn-down .ensures)
+returns-2 c =
+    open-misfits unpriced _ _ _ _ _ _ _ (c .before .before .before .before .before .open-fits .ensures) (c .before .before .before .before .if1 .left) (c .before .before .turn-down .ensures)
 
 pub open-call-spec : {M : Type 1} → statement M
 open-call-spec =

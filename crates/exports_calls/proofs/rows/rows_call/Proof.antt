@@ -1,6 +1,8 @@
 -- `exports_calls::rows::rows_call` meets its contract. Assumes nothing.
-use Rattle.exports_words.proofs.CallsLaws.{fits-facts}
+use Rattle.machine.specs.FeeTable.{unpriced}
+use Rattle.exports_words.proofs.CallsLaws.{fits-facts, answered}
 use Rattle.exports_calls.proofs.RunCallLaws.{rows-called, rows-misfits}
+use native.Mathlib.Omega.{arith}
 use borrow.Author.Needs.{needs}
 use Rattle.exports_calls.proofs.rows.rows_call.Statement.{statement}
 use Rattle.exports_calls.proofs.rows.rows_call.Tie as tie
@@ -24,7 +26,7 @@ write-registers-requires c κs =
 
 write-answer-requires : tie.Need-write-answer-requires
 write-answer-requires c κs =
-    fits-facts _ _ 7 (c .before .before .before .before .before .before .before .before .before .before .before .before .before .before .before .before .before .before .before .before .before .before .before .before .before .before .before .before .before .before .before .before .before .before .fits2 .ensures) (c .before .before .before .before .before .before .before .before .before .before .before .before .before .before .before .before .before .before .before .before .before .before .before .before .before .before .before .before .before .before .before .before .before .if1 .taken) .answer
+    omega (arith, fits-facts _ _ 7 (c .before .before .before .before .before .before .before .before .before .before .before .before .before .before .before .before .before .before .before .before .before .before .before .before .before .before .before .before .before .before .before .before .before .before .fits2 .ensures) (c .before .before .before .before .before .before .before .before .before .before .before .before .before .before .before .before .before .before .before .before .before .before .before .before .before .before .before .before .before .before .before .before .before .if1 .taken) .answer)
 
 turn-down-requires : tie.Need-turn-down-requires
 turn-down-requires c κs = search needs
@@ -61,7 +63,7 @@ same-length-10 c = search needs
 
 returns : tie.Need-returns
 returns c =
-    rows-called _ _ _ _ _ _ (c .before .before .before .before .before .before .before .before .before .before .before .before .before .before .before .before .before .before .before .before .before .before .before .before .before .before .before .before .before .before .before .before .before .before .before .before .before .fits2 .ensures) _ (c .before .before .before .before .before .before .before .before .before .before .before .before .before .before .before .before .before .before .before .before .before .before .before .before .before .before .before .before .before .before .before .before .before .before .before .before .if1 .taken) (c .before .before .before .before .before .before .before .before .before .before .before .before .before .before .before .before .before .before .before .before .before .before .before .before .before .before .before .before .before .before .before .before .before .before .read-registers .ensures) (c .before .before .before .before .before .before .before .before .before .before .before .before .before .before .before .before .before .before .before .before .before .before .before .before .before .trace-rows .ensures) (c .before .before .before .before .before .before .before .before .run-report .ensures) (c .before .before .before .before .before .before .write-registers .ensures) (c .before .before .write-answer .ensures)
+    rows-called unpriced _ _ _ _ _ (c .before .before .before .before .before .before .before .before .before .before .before .before .before .before .before .before .before .before .before .before .before .before .before .before .before .before .before .before .before .before .before .before .before .before .before .before .before .fits2 .ensures) _ _ (c .before .before .before .before .before .before .before .before .before .before .before .before .before .before .before .before .before .before .before .before .before .before .before .before .before .before .before .before .before .before .before .before .before .before .before .before .if1 .taken) (c .before .before .before .before .before .before .before .before .before .before .before .before .before .before .before .before .before .before .before .before .before .before .before .before .before .before .before .before .before .before .before .before .before .before .read-registers .ensures) (c .before .before .before .before .before .before .before .before .before .before .before .before .before .before .before .before .before .before .before .before .before .before .before .before .before .trace-rows .ensures) (c .before .before .before .before .before .before .before .before .run-report .ensures) (c .before .before .before .before .before .before .write-registers .ensures) (answered _ (fits-facts _ _ 7 (c .before .before .before .before .before .before .before .before .before .before .before .before .before .before .before .before .before .before .before .before .before .before .before .before .before .before .before .before .before .before .before .before .before .before .before .before .before .fits2 .ensures) (c .before .before .before .before .before .before .before .before .before .before .before .before .before .before .before .before .before .before .before .before .before .before .before .before .before .before .before .before .before .before .before .before .before .before .before .before .if1 .taken) .answer) (c .before .before .write-answer .ensures))
 
 same-length-11 : tie.Need-same-length-11
 same-length-11 c = search needs
@@ -71,7 +73,7 @@ same-length-12 c = search needs
 
 returns-2 : tie.Need-returns-2
 returns-2 c =
-    rows-misfits _ _ _ _ _ _ (c .before .before .before .before .before .fits2 .ensures) _ (c .before .before .before .before .if1 .left) (c .before .before .turn-down .ensures)
+    rows-misfits unpriced _ _ _ _ _ (c .before .before .before .before .before .fits2 .ensures) _ _ (c .before .before .before .before .if1 .left) (c .before .before .turn-down .ensures)
 
 pub rows-call-spec : {M : Type 1} → statement M
 rows-call-spec =

@@ -1,7 +1,9 @@
 -- `exports_calls::trace::trace_call` meets its contract. Assumes nothing.
-use borrow.Author.Needs.{needs}
-use Rattle.exports_words.proofs.CallsLaws.{fits-facts}
+use Rattle.machine.specs.FeeTable.{unpriced}
+use Rattle.exports_words.proofs.CallsLaws.{fits-facts, answered}
 use Rattle.exports_calls.proofs.RunCallLaws.{trace-called, trace-misfits}
+use native.Mathlib.Omega.{arith}
+use borrow.Author.Needs.{needs}
 use Rattle.exports_calls.proofs.trace.trace_call.Statement.{statement}
 use Rattle.exports_calls.proofs.trace.trace_call.Tie as tie
 
@@ -9,7 +11,8 @@ fits-requires : tie.Need-fits-requires
 fits-requires c κs = search needs
 
 read-registers-requires : tie.Need-read-registers-requires
-read-registers-requires c κs = fits-facts _ _ 7 (c .before .before .fits2 .ensures) (c .before .if1 .taken) .registers
+read-registers-requires c κs =
+    fits-facts _ _ 7 (c .before .before .fits2 .ensures) (c .before .if1 .taken) .registers
 
 trace-execution-requires : tie.Need-trace-execution-requires
 trace-execution-requires c κs = search needs
@@ -18,10 +21,12 @@ run-report-requires : tie.Need-run-report-requires
 run-report-requires c κs = search needs
 
 write-registers-requires : tie.Need-write-registers-requires
-write-registers-requires c κs = fits-facts _ _ 7 (c .before .before .before .before .before .before .before .before .before .before .before .before .before .before .before .before .before .before .before .before .before .before .before .before .before .before .before .fits2 .ensures) (c .before .before .before .before .before .before .before .before .before .before .before .before .before .before .before .before .before .before .before .before .before .before .before .before .before .before .if1 .taken) .registers .long
+write-registers-requires c κs =
+    fits-facts _ _ 7 (c .before .before .before .before .before .before .before .before .before .before .before .before .before .before .before .before .before .before .before .before .before .before .before .before .before .before .before .fits2 .ensures) (c .before .before .before .before .before .before .before .before .before .before .before .before .before .before .before .before .before .before .before .before .before .before .before .before .before .before .if1 .taken) .registers .long
 
 write-answer-requires : tie.Need-write-answer-requires
-write-answer-requires c κs = fits-facts _ _ 7 (c .before .before .before .before .before .before .before .before .before .before .before .before .before .before .before .before .before .before .before .before .before .before .before .before .before .before .before .before .before .before .before .fits2 .ensures) (c .before .before .before .before .before .before .before .before .before .before .before .before .before .before .before .before .before .before .before .before .before .before .before .before .before .before .before .before .before .before .if1 .taken) .answer
+write-answer-requires c κs =
+    omega (arith, fits-facts _ _ 7 (c .before .before .before .before .before .before .before .before .before .before .before .before .before .before .before .before .before .before .before .before .before .before .before .before .before .before .before .before .before .before .before .fits2 .ensures) (c .before .before .before .before .before .before .before .before .before .before .before .before .before .before .before .before .before .before .before .before .before .before .before .before .before .before .before .before .before .before .if1 .taken) .answer)
 
 turn-down-requires : tie.Need-turn-down-requires
 turn-down-requires c κs = search needs
@@ -55,7 +60,7 @@ same-length-9 c = search needs
 
 returns : tie.Need-returns
 returns c =
-    trace-called _ _ _ _ _ _ (c .before .before .before .before .before .before .before .before .before .before .before .before .before .before .before .before .before .before .before .before .before .before .before .before .before .before .before .before .before .before .before .before .before .before .fits2 .ensures) (c .before .before .before .before .before .before .before .before .before .before .before .before .before .before .before .before .before .before .before .before .before .before .before .before .before .before .before .before .before .before .before .before .before .if1 .taken) (c .before .before .before .before .before .before .before .before .before .before .before .before .before .before .before .before .before .before .before .before .before .before .before .before .before .before .before .before .before .before .before .read-registers .ensures) (c .before .before .before .before .before .before .before .before .before .before .before .before .before .before .before .before .before .before .before .before .before .before .before .trace-execution .ensures) (c .before .before .before .before .before .before .before .before .run-report .ensures) (c .before .before .before .before .before .before .write-registers .ensures) (c .before .before .write-answer .ensures)
+    trace-called unpriced _ _ _ _ _ (c .before .before .before .before .before .before .before .before .before .before .before .before .before .before .before .before .before .before .before .before .before .before .before .before .before .before .before .before .before .before .before .before .before .before .fits2 .ensures) _ (c .before .before .before .before .before .before .before .before .before .before .before .before .before .before .before .before .before .before .before .before .before .before .before .before .before .before .before .before .before .before .before .before .before .if1 .taken) (c .before .before .before .before .before .before .before .before .before .before .before .before .before .before .before .before .before .before .before .before .before .before .before .before .before .before .before .before .before .before .before .read-registers .ensures) (c .before .before .before .before .before .before .before .before .before .before .before .before .before .before .before .before .before .before .before .before .before .before .before .trace-execution .ensures) (c .before .before .before .before .before .before .before .before .run-report .ensures) (c .before .before .before .before .before .before .write-registers .ensures) (answered _ (fits-facts _ _ 7 (c .before .before .before .before .before .before .before .before .before .before .before .before .before .before .before .before .before .before .before .before .before .before .before .before .before .before .before .before .before .before .before .before .before .before .fits2 .ensures) (c .before .before .before .before .before .before .before .before .before .before .before .before .before .before .before .before .before .before .before .before .before .before .before .before .before .before .before .before .before .before .before .before .before .if1 .taken) .answer) (c .before .before .write-answer .ensures))
 
 same-length-10 : tie.Need-same-length-10
 same-length-10 c = search needs
@@ -64,7 +69,8 @@ same-length-11 : tie.Need-same-length-11
 same-length-11 c = search needs
 
 returns-2 : tie.Need-returns-2
-returns-2 c = trace-misfits _ _ _ _ _ _ (c .before .before .before .before .before .fits2 .ensures) (c .before .before .before .before .if1 .left) (c .before .before .turn-down .ensures)
+returns-2 c =
+    trace-misfits unpriced _ _ _ _ _ (c .before .before .before .before .before .fits2 .ensures) _ (c .before .before .before .before .if1 .left) (c .before .before .turn-down .ensures)
 
 pub trace-call-spec : {M : Type 1} → statement M
 trace-call-spec =

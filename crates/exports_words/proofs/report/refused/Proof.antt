@@ -10,7 +10,7 @@ numbered-requires : tie.Need-numbered-requires
 numbered-requires c κs = search needs
 
 returns : tie.Need-returns
-returns c = ap (λ (x : Refusal). report 3 x (c .before .args .steps) (c .before .args .bytes)) (c .numbered .ensures)
+returns c = ap (λ (x : Refusal). report 3 x (c .before .args .steps) (c .before .args .bytes) (c .before .args .price)) (c .numbered .ensures)
 
 pub refused-spec : {M : Type 1} → statement M
 refused-spec = tie.close (tie.spec numbered-requires returns)

@@ -38,19 +38,19 @@ refused-requires : tie.Need-refused-requires
 refused-requires c κs = search needs
 
 returns : tie.Need-returns
-returns c = c .unrefused .ensures ∙ ap (λ (x : Ending). runReport (endingIn x) (c .before .before .before .args .count) (c .before .before .before .args .bytes)) (sym (c .before .enum-told .given .1))
+returns c = c .unrefused .ensures ∙ ap (λ (x : Ending). runReport (endingIn x) (c .before .before .before .args .count) (c .before .before .before .args .bytes) (c .before .before .before .args .fee)) (sym (c .before .enum-told .given .1))
 
 returns-2 : tie.Need-returns-2
-returns-2 c = c .unrefused2 .ensures ∙ ap (λ (x : Ending). runReport (endingIn x) (c .before .before .before .args .count) (c .before .before .before .args .bytes)) (sym (c .before .enum-told2 .given .1))
+returns-2 c = c .unrefused2 .ensures ∙ ap (λ (x : Ending). runReport (endingIn x) (c .before .before .before .args .count) (c .before .before .before .args .bytes) (c .before .before .before .args .fee)) (sym (c .before .enum-told2 .given .1))
 
 returns-3 : tie.Need-returns-3
-returns-3 c = c .unrefused3 .ensures ∙ ap (λ (x : Ending). runReport (endingIn x) (c .before .before .before .args .count) (c .before .before .before .args .bytes)) (sym (c .before .enum-told3 .given .1))
+returns-3 c = c .unrefused3 .ensures ∙ ap (λ (x : Ending). runReport (endingIn x) (c .before .before .before .args .count) (c .before .before .before .args .bytes) (c .before .before .before .args .fee)) (sym (c .before .enum-told3 .given .1))
 
 returns-4 : tie.Need-returns-4
-returns-4 c = c .unrefused4 .ensures ∙ ap (λ (x : Ending). runReport (endingIn x) (c .before .before .before .args .count) (c .before .before .before .args .bytes)) (sym (c .before .enum-told4 .given .1))
+returns-4 c = c .unrefused4 .ensures ∙ ap (λ (x : Ending). runReport (endingIn x) (c .before .before .before .args .count) (c .before .before .before .args .bytes) (c .before .before .before .args .fee)) (sym (c .before .enum-told4 .given .1))
 
 returns-5 : tie.Need-returns-5
-returns-5 c = c .refused .ensures ∙ ap (λ (x : Ending). runReport (endingIn x) (c .before .before .before .before .args .count) (c .before .before .before .before .args .bytes)) (sym (c .before .before .ending .given .1))
+returns-5 c = c .refused .ensures ∙ ap (λ (x : Ending). runReport (endingIn x) (c .before .before .before .before .args .count) (c .before .before .before .before .args .bytes) (c .before .before .before .before .args .fee)) (sym (c .before .before .ending .given .1))
 
 pub run-report-spec : {M : Type 1} → statement M
 run-report-spec =

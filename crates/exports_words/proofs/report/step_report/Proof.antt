@@ -20,10 +20,10 @@ refused-requires : tie.Need-refused-requires
 refused-requires c κs = search needs
 
 returns : tie.Need-returns
-returns c = c .unrefused .ensures ∙ ap (λ (x : Answer). stepReport (answerIn x) (c .before .before .before .args .bytes)) (sym (c .before .enum-told .given .1))
+returns c = c .unrefused .ensures ∙ ap (λ (x : Answer). stepReport (answerIn x) (c .before .before .before .args .bytes) (c .before .before .before .args .row)) (sym (c .before .enum-told .given .1))
 
 returns-2 : tie.Need-returns-2
-returns-2 c = c .refused .ensures ∙ ap (λ (x : Answer). stepReport (answerIn x) (c .before .before .before .before .args .bytes)) (sym (c .before .before .answer .given .1))
+returns-2 c = c .refused .ensures ∙ ap (λ (x : Answer). stepReport (answerIn x) (c .before .before .before .before .args .bytes) (c .before .before .before .before .args .row)) (sym (c .before .before .answer .given .1))
 
 pub step-report-spec : {M : Type 1} → statement M
 step-report-spec =

@@ -1,7 +1,9 @@
 -- `exports_words::report::turn_down` meets its contract. Assumes nothing.
 use borrow.Author.Tests.{eq-eqb, ne-eqb}
+use Rattle.exports_words.specs.Report.{saidOf, answerOf, misfit}
+use Prim.Native.Nat.{ℕ}
+use mathlib.Core.Path.{ap, _∙_}
 use borrow.Author.Needs.{needs}
-use Rattle.exports_words.specs.Report.{saidOf}
 use Rattle.exports_words.proofs.report.turn_down.Statement.{statement}
 use Rattle.exports_words.proofs.report.turn_down.Tie as tie
 
@@ -13,11 +15,13 @@ same-length c = search needs
 
 returns : tie.Need-returns
 unfolding saidOf
-returns c = rw (eq-eqb _ 7 (c .before .before .before .before .if1 .taken)) (c .before .before .write-answer .ensures)
+returns c =
+    rw (eq-eqb _ (c .before .before .before .before .before .before .args .n) (c .before .before .before .before .if1 .taken)) (c .before .before .write-answer .ensures ∙ ap (λ (k : ℕ). answerOf k misfit) (c .before .before .before .before .if1 .taken))
 
 returns-2 : tie.Need-returns-2
 unfolding saidOf
-returns-2 c = rw (ne-eqb _ 7 (c .if1 .left))
+returns-2 c =
+    rw (ne-eqb _ (c .before .before .args .n) (c .if1 .left))
 
 pub turn-down-spec : {M : Type 1} → statement M
 turn-down-spec = tie.close (tie.spec write-answer-requires same-length returns returns-2)

@@ -1,0 +1,56 @@
+-- `machine_vm::rows::trace_rows_with_fees` meets its contract. Assumes nothing.
+use mathlib.Core.Bool.{true≢false}
+use Rattle.machine_fees.proofs.FeeLaws.{zeros-priceable}
+use borrow.Author.Needs.{needs}
+use Rattle.machine_vm.proofs.rows.trace_rows_with_fees.Statement.{statement}
+use Rattle.machine_vm.proofs.rows.trace_rows_with_fees.Tie as tie
+
+slice-aggregate-call : tie.Need-slice-aggregate-call
+slice-aggregate-call c = search needs
+
+call-requires : tie.Need-call-requires
+call-requires c κs =
+    record { log = λ e. absurd (true≢false e); table = λ e. absurd (true≢false e); prices = λ _. zeros-priceable }
+
+same-length : tie.Need-same-length
+same-length c = search needs
+
+same-length-2 : tie.Need-same-length-2
+same-length-2 c = search needs
+
+same-length-3 : tie.Need-same-length-3
+same-length-3 c = search needs
+
+same-length-4 : tie.Need-same-length-4
+same-length-4 c = search needs
+
+same-length-5 : tie.Need-same-length-5
+same-length-5 c = search needs
+
+same-length-6 : tie.Need-same-length-6
+same-length-6 c = search needs
+
+same-length-7 : tie.Need-same-length-7
+same-length-7 c = search needs
+
+same-length-8 : tie.Need-same-length-8
+same-length-8 c = search needs
+
+returns : tie.Need-returns
+returns c = search needs
+
+pub trace-rows-with-fees-spec : {M : Type 1} → statement M
+trace-rows-with-fees-spec =
+    tie.close
+    (tie.spec
+    slice-aggregate-call
+    call-requires
+    same-length
+    same-length-2
+    same-length-3
+    same-length-4
+    same-length-5
+    same-length-6
+    same-length-7
+    same-length-8
+    returns)
