@@ -4,7 +4,7 @@ ghost use Rattle.std.specs.Prelude.{◌<◌, ◌≤◌};
 use libc::STDIN_FILENO;
 
 // What reading the file must give. The sums are of the slices, in read_job's order.
-#[derive(Drop)]
+#[derive(Clone, Copy)]
 pub struct Wanted {
     pub length: u64,
     pub number: u64,

@@ -1,5 +1,6 @@
 // Reads the job files of a list on its standard input, and compares what comes out with what the list says of each.
 // host/vectors/broken_files.py makes the list from document 01, and says there what its bytes are.
+#![tactic(auto)]
 mod entry;
 mod report;
 mod trial;

@@ -1,2 +1,3 @@
 // Choices between numbers, for all layers.
+#![tactic(auto)]
 pub mod numbers;

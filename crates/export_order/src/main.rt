@@ -3,6 +3,7 @@
 //
 // Three exchanges give the same function, so that nothing can show them: public and secret in triton_open, and origins and destinations in
 // triton_open and in triton_helper_variables, with fees too. triton_step_registers is lent a struct: host/triton/tests/registers.rs tests its order.
+#![tactic(auto)]
 mod print;
 
 use exports::calls::{
@@ -42,7 +43,7 @@ const HIGHEST: [u64; 3] = [39, 59, 200];
 const FEES: [u64; 3] = [1000, 5, 70];
 
 // What is lent to be changed. The lengths differ, but those that must be the same.
-#[derive(Drop)]
+#[derive(Clone, Copy)]
 struct Lent {
     number: u64,
     registers: [u64; 28],

@@ -1,4 +1,5 @@
 // The calls over numbers and slices, by those of the machine and of replay.
+#![tactic(auto)]
 pub mod given;
 pub mod helper_variables;
 pub mod open;

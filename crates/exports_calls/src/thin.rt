@@ -11,7 +11,7 @@ use tip5::sponge::Sponge;
 // The registers as C lays them out: 216 bytes, each of them a field's. The three reserved fields stay as they are; without them the
 // compiler would fill their bytes with what stood on the stack, since the record is stored whole.
 #[repr(C)]
-#[derive(Drop)]
+#[derive(Clone, Copy)]
 pub struct Registers {
     pub clock: u32,
     pub reserved: u32,
@@ -33,7 +33,7 @@ pub struct Registers {
 }
 
 // The number that the call gives, and the registers behind it.
-#[derive(Drop)]
+#[derive(Clone, Copy)]
 pub struct Reply {
     pub number: u64,
     pub state: Registers,

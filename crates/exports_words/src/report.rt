@@ -12,7 +12,7 @@ use machine_steps::answer::Ending;
 use tip5::words::copy;
 
 // The words of an answer. The last, by a fee table: what the steps cost, or the row that priced a step.
-#[derive(Drop)]
+#[derive(Clone, Copy)]
 pub struct Report {
     pub ending: u64,
     pub number: u64,

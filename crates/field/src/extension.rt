@@ -6,7 +6,7 @@ ghost use Rattle.field.specs.Extension.{WordsX, lift_x, add_x, neg_x, sub_x, mul
 use super::base;
 
 // c0 + c1 X + c2 X^2, each coefficient a word.
-#[derive(Drop)]
+#[derive(Clone, Copy)]
 pub struct XFieldElement {
     pub c0: u64,
     pub c1: u64,

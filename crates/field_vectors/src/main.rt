@@ -1,5 +1,6 @@
 // Writes what the field's functions answer on edge values, a line each. The figures in the file `stdout`, which it must write, are Python's
 // (host/vectors/field_vectors.py).
+#![tactic(auto)]
 ghost use Rattle.std.specs.Prelude.{◌<◌};
 ghost use Rattle.field.specs.Base.{p};
 ghost use Rattle.field.specs.Extension.{WordsX};

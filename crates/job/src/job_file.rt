@@ -41,7 +41,7 @@ fn size_at(file: &[u8], at: usize) -> usize
 }
 
 // A record's kind and size. Where no whole one stands, all that is left counts as one of kind 0.
-#[derive(Drop)]
+#[derive(Clone, Copy)]
 struct Piece {
     kind: u64,
     size: usize,
@@ -135,7 +135,7 @@ fn column(file: &[u8], kind: u64, from: usize, n: usize, m: usize, out: &mut [u6
 // ---- the job
 
 // What a file says beside the words in the slices: its number, 0 or 50, and how many words there are of each kind.
-#[derive(Drop)]
+#[derive(Clone, Copy)]
 pub struct JobFile {
     pub number: u64,
     pub digest: [u64; 5],

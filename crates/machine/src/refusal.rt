@@ -1,5 +1,5 @@
 // Why a call is turned down. The names are the Rust's where it has them; specs/Refusal.antt gives each its number and words.
-#[derive(Drop)]
+#[derive(Clone, Copy)]
 pub enum InstructionError {
     // What is found before place B: by its number, and the word that it carries.
     Checked(u64, u64),

@@ -1,3 +1,4 @@
 // The instructions of arithmetic and of bits.
+#![tactic(auto)]
 pub mod arithmetic;
 pub mod bitwise;

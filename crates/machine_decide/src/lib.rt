@@ -1,3 +1,4 @@
 // Place B, and what the instruction decides.
+#![tactic(auto)]
 pub mod decide;
 pub mod place_b;

@@ -9,7 +9,7 @@ ghost use Rattle.machine.specs.InputOutput.{taken};
 use machine::refusal::InstructionError;
 use tip5::words::copy;
 
-#[derive(Drop)]
+#[derive(Clone, Copy)]
 pub struct Effect {
     // How many words it takes off the op stack, and which it puts on, the first lowest.
     pub pops: usize,
@@ -40,14 +40,14 @@ pub struct Effect {
     pub values: [u64; 10],
 }
 
-#[derive(Drop)]
+#[derive(Clone, Copy)]
 pub struct U32Call {
     pub opcode: u64,
     pub left: u64,
     pub right: u64,
 }
 
-#[derive(Drop)]
+#[derive(Clone, Copy)]
 pub enum Verdict {
     Acts,
     Refuses(InstructionError),
@@ -55,7 +55,7 @@ pub enum Verdict {
     Drops(InstructionError),
 }
 
-#[derive(Drop)]
+#[derive(Clone, Copy)]
 pub struct Decided {
     pub verdict: Verdict,
     pub effect: Effect,

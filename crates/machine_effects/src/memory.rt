@@ -14,7 +14,7 @@ use field::base;
 use machine_ram::near;
 
 // Accesses in a row: addresses and values, the values once more as words to put on, and the address behind the last.
-#[derive(Drop)]
+#[derive(Clone, Copy)]
 pub struct Accesses {
     pub addresses: [u64; 10],
     pub values: [u64; 10],

@@ -66,7 +66,7 @@ fn covers(lowest: u64, highest: u64, opcode: u64) -> bool
 }
 
 // In how many rows an opcode lies, and the last of them, 0 where there is none.
-#[derive(Drop)]
+#[derive(Clone, Copy)]
 pub struct Found {
     pub times: usize,
     pub row: usize,
@@ -95,7 +95,7 @@ pub fn find_row(lowest: &[u64], highest: &[u64], opcode: u64) -> Found
 }
 
 // What is wrong: a number with the opcode that it carries, or zeros.
-#[derive(Drop)]
+#[derive(Clone, Copy)]
 pub struct Fault {
     pub number: u64,
     pub opcode: u64,

@@ -19,7 +19,7 @@ use tip5::permutation::trace;
 use tip5::sponge::Sponge;
 use tip5::words::copy;
 
-#[derive(Drop)]
+#[derive(Clone, Copy)]
 pub struct Hashed {
     // What it does but for the sponge and the trace.
     pub decided: Decided,

@@ -1,3 +1,4 @@
 // The hashing instructions, and those that do many in one.
+#![tactic(auto)]
 pub mod hashing;
 pub mod many_in_one;

@@ -1,2 +1,3 @@
 // The helper variables behind place A.
+#![tactic(auto)]
 pub mod helper_variables;

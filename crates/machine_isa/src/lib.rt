@@ -1,3 +1,4 @@
 // The table of instructions, and the op stack.
+#![tactic(auto)]
 pub mod instruction;
 pub mod op_stack;

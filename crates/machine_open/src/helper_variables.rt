@@ -10,7 +10,7 @@ use machine_helpers::helper_variables::helpers;
 use machine_place_a::checks::check_machine;
 
 // Place A's number, 0 where it accepts, and the six words.
-#[derive(Drop)]
+#[derive(Clone, Copy)]
 pub struct Helped {
     pub number: u64,
     pub helpers: [u64; 6],

@@ -10,7 +10,7 @@ use machine_place_a::checks::check_machine;
 use machine_rows::processor_row::write_row;
 
 // Place A's number, 0 where it accepts, and the words of the row.
-#[derive(Drop)]
+#[derive(Clone, Copy)]
 pub struct Rowed {
     pub number: u64,
     pub words: [u64; 37],

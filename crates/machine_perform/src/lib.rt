@@ -1,4 +1,5 @@
 // Place D, and what an effect makes of the machine.
+#![tactic(auto)]
 pub mod answer;
 pub mod limits;
 pub mod perform;

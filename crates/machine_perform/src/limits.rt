@@ -43,7 +43,7 @@ fn among(written: [u64; 10], from: usize, n: usize, address: u64) -> bool
 }
 
 // How many cells a write adds, and the place of its address or a guess at it.
-#[derive(Drop)]
+#[derive(Clone, Copy)]
 struct Added {
     cells: usize,
     place: usize,

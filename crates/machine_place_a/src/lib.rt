@@ -1,2 +1,3 @@
 // Place A: what is checked of what a call is handed.
+#![tactic(auto)]
 pub mod checks;

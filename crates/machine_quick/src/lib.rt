@@ -1,2 +1,3 @@
 // A step that changes op stack, pointer and clock only.
+#![tactic(auto)]
 pub mod quick;

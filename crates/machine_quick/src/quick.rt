@@ -18,7 +18,7 @@ use machine_isa::op_stack::{apply, top};
 use machine_step::advance::next;
 
 // Whether a quick step was taken, and where pointer and depth are then.
-#[derive(Drop)]
+#[derive(Clone, Copy)]
 pub struct QuickStep {
     pub done: bool,
     pub pointer: u64,

@@ -1,3 +1,4 @@
 // RAM cells: search, reading, writing, ascending addresses.
+#![tactic(auto)]
 pub mod near;
 pub mod ram;

@@ -9,14 +9,14 @@ use crate::ram::Found;
 use std::num::{wrapping_add_usize, wrapping_sub_usize};
 
 // A word, and the place of its address.
-#[derive(Drop)]
+#[derive(Clone, Copy)]
 pub struct Got {
     pub word: u64,
     pub place: usize,
 }
 
 // How many cells are used after a write, and the place of its address.
-#[derive(Drop)]
+#[derive(Clone, Copy)]
 pub struct Put {
     pub count: usize,
     pub place: usize,

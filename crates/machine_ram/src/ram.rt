@@ -5,14 +5,14 @@ ghost use Rattle.machine.specs.Ram.{cells, held, moved_up, inserted, falls_of};
 ghost use Rattle.machine_ram.specs.RamView.{Ordered, Usable, Spotted, Looked, Room, Stored};
 
 // Where an address has its cell, or where its new cell goes.
-#[derive(Drop)]
+#[derive(Clone, Copy)]
 pub enum Found {
     At(usize),
     Absent(usize),
 }
 
 // The place of an address, and the word there where it is a used one.
-#[derive(Drop)]
+#[derive(Clone, Copy)]
 pub struct Spot {
     pub place: usize,
     pub word: u64,

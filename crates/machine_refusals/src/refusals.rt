@@ -5,7 +5,7 @@ ghost use Rattle.machine_refusals.specs.RefusalView.{refusal_in};
 
 use machine::refusal::InstructionError;
 
-#[derive(Drop)]
+#[derive(Clone, Copy)]
 pub struct Refusal {
     pub number: u64,
     pub word0: u64,

@@ -1,2 +1,3 @@
 // Rows of the processor table.
+#![tactic(auto)]
 pub mod processor_row;

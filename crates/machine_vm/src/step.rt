@@ -128,7 +128,7 @@ pub fn step(
 }
 
 // A step, and the row of the fee table that priced it, counted from 0.
-#[derive(Drop)]
+#[derive(Clone, Copy)]
 pub struct Priced {
     pub stepped: Stepped,
     pub row: usize,

@@ -20,7 +20,7 @@ pub const BEFORE: usize = 8;
 pub const AFTER: usize = 12;
 
 // Places of memory's words: op stack, jump stack, RAM and output; and the place behind them.
-#[derive(Drop)]
+#[derive(Clone, Copy)]
 pub struct Memory {
     pub op_stack: usize,
     pub jumps: usize,
@@ -30,7 +30,7 @@ pub struct Memory {
 }
 
 // Places of the other words: inputs, the number, and the helper variables.
-#[derive(Drop)]
+#[derive(Clone, Copy)]
 pub struct Places {
     pub public: usize,
     pub secret: usize,
@@ -42,7 +42,7 @@ pub struct Places {
 }
 
 // Which entry it is, whether it is a full one, its places, and the place of its calls among the bytes.
-#[derive(Drop)]
+#[derive(Clone, Copy)]
 pub struct Entry {
     pub index: u64,
     pub full: bool,

@@ -1,5 +1,6 @@
 // Takes the steps of two lists on its standard input, and compares what comes out with the answers that stand in them: the
 // original Rust's, and for damaged machines the model's. host/compare/sample writes the lists, FORMAT.md there has the bytes.
+#![tactic(auto)]
 ghost use Rattle.std.specs.Prelude.{◌<◌};
 
 mod answer;
@@ -12,7 +13,7 @@ use entry::{BESIDES, Entry, HEAD, Places};
 use libc::{STDIN_FILENO, STDOUT_FILENO};
 
 // An entry's number, and whether all came out as it says.
-#[derive(Drop)]
+#[derive(Clone, Copy)]
 struct Seen {
     number: u64,
     same: bool,

@@ -2,7 +2,7 @@
 ghost use Rattle.std.specs.Prelude.{◌≡◌, ◌<◌, ◌≤◌, length};
 
 // The words at the start of an entry, and the place of the byte behind them.
-#[derive(Drop)]
+#[derive(Clone, Copy)]
 pub struct Decoded {
     pub words: [u64; 512],
     pub behind: usize,

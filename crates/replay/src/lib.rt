@@ -1,1 +1,2 @@
 // What replay is, and the theorem of demand 3: definitions and laws, without code.
+#![tactic(auto)]

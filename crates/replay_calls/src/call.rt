@@ -16,7 +16,7 @@ use replay_group::write::write_back;
 use replay_scan::scan::scan_log;
 
 // The number, 0 where the log is not refused; depth and used cells, 0 where it is.
-#[derive(Drop)]
+#[derive(Clone, Copy)]
 pub struct Answer {
     pub number: u64,
     pub depth: usize,
@@ -24,7 +24,7 @@ pub struct Answer {
 }
 
 // The number; whether the table has the cells of all records, and how many.
-#[derive(Drop)]
+#[derive(Clone, Copy)]
 struct Decision {
     number: u64,
     whole: bool,
@@ -32,7 +32,7 @@ struct Decision {
 }
 
 // The number, and how many cells are used where it is 0.
-#[derive(Drop)]
+#[derive(Clone, Copy)]
 struct Rebuilt {
     number: u64,
     cells: usize,

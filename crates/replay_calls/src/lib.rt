@@ -1,3 +1,4 @@
 // Replay: the call.
+#![tactic(auto)]
 pub mod call;
 pub mod place_a;

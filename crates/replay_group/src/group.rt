@@ -18,7 +18,7 @@ use replay_table::merge::count_new;
 use replay_table::table::{make_room, put, settle, word_at};
 
 // What came of one record: whether it is a wrong read, and how many late cells there are.
-#[derive(Drop)]
+#[derive(Clone, Copy)]
 pub struct Touch {
     pub wrong: bool,
     pub m: usize,
@@ -26,7 +26,7 @@ pub struct Touch {
 
 // What came of a group: the place of the first wrong read (else the place given), where the group ends, and how many cells
 // stand in the table and how many late ones.
-#[derive(Drop)]
+#[derive(Clone, Copy)]
 pub struct Pass {
     pub end: usize,
     pub hi: u64,
@@ -35,7 +35,7 @@ pub struct Pass {
 }
 
 // The same, with all cells in the table.
-#[derive(Drop)]
+#[derive(Clone, Copy)]
 pub struct Group {
     pub end: usize,
     pub hi: u64,
@@ -44,7 +44,7 @@ pub struct Group {
 
 // What came of all groups: the first wrong read, how many new cells the records before it take, how many groups there were,
 // and how many cells the last one's table has.
-#[derive(Drop)]
+#[derive(Clone, Copy)]
 pub struct Sweep {
     pub end: usize,
     pub cells: usize,

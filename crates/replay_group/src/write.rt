@@ -11,7 +11,7 @@ use field::base::P;
 use replay_table::merge::{count_new, merge};
 
 // How many cells are used then, and how many groups there were.
-#[derive(Drop)]
+#[derive(Clone, Copy)]
 pub struct Wrote {
     pub cells: usize,
     pub groups: usize,

@@ -1,5 +1,6 @@
 // Runs the job of jobs/memory.txt, whose log has reads of the op stack and of RAM, and replays its log: up to each clock, and then with each
 // read altered, to another word and to a number that is no word. A line each says what replay answers and what is in the lent slices then.
+#![tactic(auto)]
 mod alter;
 mod memory_job;
 mod print;

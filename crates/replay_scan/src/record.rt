@@ -7,7 +7,7 @@ ghost use Rattle.replay_scan.specs.Walk.{log_of};
 use machine_log::kinds::length_of;
 
 // What stands at a place: 0 the end, 1 no whole record, 2 a record of this kind, of `size` bytes behind its length field.
-#[derive(Drop)]
+#[derive(Clone, Copy)]
 pub struct Head {
     pub state: u64,
     pub kind: u64,
@@ -15,7 +15,7 @@ pub struct Head {
 }
 
 // The fields of a record of the op stack, whose pointer is `place`, or of RAM, whose address it is.
-#[derive(Drop)]
+#[derive(Clone, Copy)]
 pub struct Fields {
     pub clock: u64,
     pub place: u64,

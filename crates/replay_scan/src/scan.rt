@@ -12,7 +12,7 @@ use crate::record::{Fields, head_at, ram_fields, stack_fields, timed_clock};
 use choices::numbers::{above, differ, first};
 
 // What has been read at the last clock: the direction of its stack records, and how many records are of the stack and of RAM.
-#[derive(Drop)]
+#[derive(Clone, Copy)]
 pub struct Counts {
     pub last: u64,
     pub way: u64,
@@ -21,7 +21,7 @@ pub struct Counts {
 }
 
 // A scan's number, the place where it ended, the depth there, and 0 where no record before it is of RAM.
-#[derive(Drop)]
+#[derive(Clone, Copy)]
 pub struct Scan {
     pub number: u64,
     pub end: usize,
@@ -31,7 +31,7 @@ pub struct Scan {
 
 // What a record does: it goes on, with the counts and the depth behind it, and 1 if it is of RAM; its number is then 45 if it is a RAM
 // read too many, which ends the scan behind it. Or its fault's number ends the scan, or, where that is 0, its clock.
-#[derive(Drop)]
+#[derive(Clone, Copy)]
 pub struct Turn {
     pub going: bool,
     pub number: u64,

@@ -1,3 +1,4 @@
 // The table of written cells, and merging.
+#![tactic(auto)]
 pub mod merge;
 pub mod table;

@@ -8,7 +8,7 @@ ghost use Rattle.replay_table.specs.Merge.{Merging, Merged, Topped, LacksOne, La
 use machine_ram::ram::{Found, find};
 
 // The cell that stands topmost of those left, and how many are then left of both.
-#[derive(Drop)]
+#[derive(Clone, Copy)]
 struct Taken {
     address: u64,
     value: u64,

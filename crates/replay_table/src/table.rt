@@ -12,7 +12,7 @@ use crate::merge::merge;
 use machine_ram::ram::{Found, find, read, write};
 
 // How many cells stand in the table and how many late ones; and where the group ends.
-#[derive(Drop)]
+#[derive(Clone, Copy)]
 pub struct Made {
     pub n: usize,
     pub m: usize,

@@ -1,6 +1,7 @@
 // runjob: reads a job file from standard input, runs the job and writes what document 01's printed job says (printed_of, in job's
 // specs/Printed.antt). Reading and writing have no contract that says which bytes: what is written is what `start` and `piece` say, in
 // their order, and that is printedOf's text (proofs/Printing.antt).
+#![tactic(auto)]
 mod pending;
 mod refusals;
 

@@ -5,7 +5,7 @@ pub mod start;
 use machine::state::VMState;
 
 // Only `start` makes one and only `piece` goes on with it: who prints the text cannot name or change what the next lines depend on.
-#[derive(Drop)]
+#[derive(Clone, Copy)]
 pub struct Pending {
     // 0 if the job is opened, else why not.
     number: u64,

@@ -6,21 +6,21 @@ use crate::permutation::permuted;
 use crate::words::copy;
 
 // Sixteen words with a mark whether they are set. The words of a sponge that is not set are carried along.
-#[derive(Drop)]
+#[derive(Clone, Copy)]
 pub struct Sponge {
     pub words: [u64; 16],
     pub set: bool,
 }
 
 // Inputs of ten words and inputs of any length start from different words 10 to 15.
-#[derive(Drop)]
+#[derive(Clone, Copy)]
 pub enum Domain {
     VariableLength,
     FixedLength,
 }
 
 // What a squeeze gives: ten words, and the sponge after it.
-#[derive(Drop)]
+#[derive(Clone, Copy)]
 pub struct Squeezed {
     pub words: [u64; 10],
     pub sponge: Sponge,

@@ -1,4 +1,5 @@
 // Runs Tip5's published vectors, a trace, the sponge in both domains and the lookup table's rule, and writes what comes out.
+#![tactic(auto)]
 
 mod vectors;
 
