@@ -265,13 +265,13 @@ row_below x i h =
 gather : (e h l : ℕ) → e * h * 2 ^ 32 + e * l ≡ e * (h * 2 ^ 32 + l)
 gather e h l = omega arith
 
-half_at : (upper : Bool) (s : List ℕ) (j : ℕ) → j < 16 → get_or (halves_of upper s) j 0 ≡ half_at upper s j
+half_at_lem : (upper : Bool) (s : List ℕ) (j : ℕ) → j < 16 → get_or (halves_of upper s) j 0 ≡ half_at upper s j
 unfolding halves_of
-half_at upper s j h = tab-at (half_at upper s) 16 j h
+half_at_lem upper s j h = tab-at (half_at upper s) 16 j h
 
 half-term : (s : List ℕ) (i j : ℕ) → j < 16 → product (halves_of true s) i j * 2 ^ 32 + product (halves_of false s) i j ≡ product s i j
 half-term s i j h =
-    (λ n. entry i j * half_at true s j h n * 2 ^ 32 + entry i j * half_at false s j h n)
+    (λ n. entry i j * half_at_lem true s j h n * 2 ^ 32 + entry i j * half_at_lem false s j h n)
     ∙ gather (entry i j) (get_or s j 0 / 2 ^ 32) (get_or s j 0 % 2 ^ 32)
     ∙ ap (λ (x : ℕ). entry i j * x) (div-add-mod' (get_or s j 0) (2 ^ 32))
 

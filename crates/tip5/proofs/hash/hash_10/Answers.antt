@@ -1,0 +1,9 @@
+use mathlib.Core.Path.{◌∙◌}
+use Prim.Native.Nat.{◌-◌}
+use borrow.Author.Rules.{rules}
+use Rattle.tip5.specs.Hash.{hash10_of}
+use Rattle.tip5.proofs.hash.hash_10.Goals as goal
+
+pub returns : goal.returns
+unfolding hash10_of
+returns c = c.digest.ensures ∙ rw (c.absorb-s.ensures, c.new.ensures)

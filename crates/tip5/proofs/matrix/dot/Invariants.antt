@@ -1,0 +1,17 @@
+use mathlib.Core.List.{List}
+use mathlib.Core.Path.{◌≡◌, sym, ap, ◌∙◌}
+use Prim.Native.Nat.{ℕ, ◌+◌, ◌*◌, ◌-◌, ◌≤◌}
+use native.Mathlib.Omega.{arith}
+use borrow.Author.Rules.{rules}
+use lib.ListN.{get_or}
+use Rattle.tip5.specs.Matrix.{sum_zero}
+use Rattle.tip5.specs.Split.{coefficients, dot_of, term_of}
+use Rattle.tip5.proofs.matrix.Laws.{coefficients-below, term-below}
+use Rattle.tip5.proofs.matrix.Sums.{sum_more}
+use Rattle.tip5.proofs.matrix.dot.Given as goal
+
+abbrev pub invariant-loop-j : goal.invariant-loop-j
+invariant-loop-j l = (l.j ≤ l.n) × (l.sum ≤ l.j * (0x1f_ffff * 0x3_ffff_ffff)) × (l.sum ≡ dot_of l.at l.x l.j)
+
+abbrev pub decreases-loop-j : goal.decreases-loop-j
+decreases-loop-j l = l.n - l.j

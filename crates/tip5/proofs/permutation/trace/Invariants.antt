@@ -1,0 +1,16 @@
+use mathlib.Core.Path.{◌≡◌, refl, sym, ap, ◌∙◌}
+use Prim.Native.Nat.{◌+◌, ◌*◌, ◌-◌, ◌≤◌}
+use native.Mathlib.Omega.{arith}
+use borrow.Author.Rules.{rules}
+use lib.ListN.{take, drop, replicate, length}
+use Rattle.tip5.specs.Permutation.{state_of, states_of}
+use Rattle.tip5.specs.Round.{round_of}
+use Rattle.tip5.specs.Words.{Words}
+use Rattle.tip5.proofs.permutation.Laws.{state-zero, state-more, trace-start, trace-more, trace-all, trace-last, trace-words}
+use Rattle.tip5.proofs.permutation.trace.Given as goal
+
+abbrev pub invariant-loop-r : goal.invariant-loop-r
+invariant-loop-r l = (l.r ≤ 5) × (length l.out ≡ 96) × (l.s ≡ state_of l.r l.initial.s) × (take (16 * l.r + 16) l.out ≡ states_of l.r l.initial.s)
+
+abbrev pub decreases-loop-r : goal.decreases-loop-r
+decreases-loop-r l = 5 - l.r

@@ -1,0 +1,9 @@
+use mathlib.Core.Path.{◌∙◌}
+use Prim.Native.Nat.{◌-◌}
+use borrow.Author.Rules.{rules}
+use Rattle.tip5.specs.Round.{round_of}
+use Rattle.tip5.proofs.round.round.Goals as goal
+
+pub returns : goal.returns
+unfolding round_of
+returns c = c.linear_layer.ensures ∙ rw c.sbox_layer-b.ensures

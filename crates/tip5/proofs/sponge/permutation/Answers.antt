@@ -1,0 +1,6 @@
+use Prim.Native.Nat.{◌-◌}
+use borrow.Author.Rules.{rules}
+use Rattle.tip5.proofs.sponge.permutation.Goals as goal
+
+pub returns : goal.returns
+returns c = rw c.permuted.ensures.is
