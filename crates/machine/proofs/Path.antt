@@ -240,8 +240,8 @@ module _ (decide : Machine → Decision) where
   path-kth (at-full h l) (suc k) q = absurd (omega arith)
   path-kth (at-refusal h e) (suc k) q = absurd (omega arith)
   path-kth (at_drop h e) (suc k) q = absurd (omega arith)
-  path-kth {m = m} (by_step {x = x} h e g) (suc k) q =
-      let i = path-kth g k (omega arith) in
+  path-kth {s = s} {m = m} (by_step {x = x} h e g) (suc k) q =
+      let i = path-kth {s = behind s (step_log decide m)} g k (omega arith) in
       let on = path_on unlogged k m (took x) h refl e in
       record { left = λ d. i.left d ∙ ap (λ (p : Path). p.left) (sym on); count_is = ap (λ (p : Path). count p) on ∙ ap suc i.count_is }
 
