@@ -1,0 +1,17 @@
+use borrow.Author.Rules.{rules}
+use mathlib.Core.Path.{sym, ◌∙◌}
+use borrow.Author.Tests.{eq-eqb, ne_eqb, lt-ltb, le-ltb}
+use Rattle.machine_isa.proofs.TableLaws.{shrunk_by_lem}
+use Rattle.machine_isa.proofs.instruction.shrunk.Goals as goal
+
+pub returns-then-c-eq33 : goal.returns-then-c-eq33
+returns-then-c-eq33 c = sym (shrunk_by_lem c.args.opcode c.args.argument c.change-c.result c.change-c.ensures ∙ simp (eq-eqb _ _ c.if-c-eq33.true))
+
+pub returns-then-c-lt16 : goal.returns-then-c-lt16
+returns-then-c-lt16 c = sym (shrunk_by_lem c.args.opcode c.args.argument c.change-c.result c.change-c.ensures ∙ simp (ne_eqb _ _ c.if-c-eq33.false, lt-ltb _ _ c.if-c-lt16.true))
+
+pub returns-then-c-lt32 : goal.returns-then-c-lt32
+returns-then-c-lt32 c = sym (shrunk_by_lem c.args.opcode c.args.argument c.change-c.result c.change-c.ensures ∙ simp (ne_eqb _ _ c.if-c-eq33.false, le-ltb _ _ c.if-c-lt16.false, lt-ltb _ _ c.if-c-lt32.true))
+
+pub returns-else-c-lt32 : goal.returns-else-c-lt32
+returns-else-c-lt32 c = sym (shrunk_by_lem c.args.opcode c.args.argument c.change-c.result c.change-c.ensures ∙ simp (ne_eqb _ _ c.if-c-eq33.false, le-ltb _ _ c.if-c-lt16.false, le-ltb _ _ c.if-c-lt32.false))
