@@ -17,22 +17,20 @@ use Rattle.machine_effects.specs.MemoryView.{ReadBy}
 use Rattle.machine.specs.Memory.{words_by, reads_by, down, writes_up}
 
 -- one access more, at the end
-access_more : (f : ℕ → ℕ → Call) (a v : List ℕ) (x y k n : ℕ) → k + n < length a → k + n < length v →
-    accesses_from f (set a (k + n) x) (set v (k + n) y) k (suc n) ≡ accesses_from f a v k n ++ (f x y ∷ [])
+access_more : (f : ℕ → ℕ → Call) (a v : List ℕ) (x y k n j : ℕ) → j ≡ k + n → j < length a → j < length v →
+    accesses_from f (set a j x) (set v j y) k (suc n) ≡ accesses_from f a v k n ++ (f x y ∷ [])
 unfolding accesses_from
-access_more f a v x y k zero h l =
-    let e : k + 0 ≡ k = omega arith in
+access_more f a v x y k zero j i h l =
+    let e : j ≡ k = omega arith in
     rw (e, get_or-set_same a k x 0 (omega arith), get_or-set_same v k y 0 (omega arith))
-access_more f a v x y k (suc n) h l =
-    let e : k + suc n ≡ k + 1 + n = omega arith in
-    let g : k ≡ k + 1 + n → ⊥ = λ z. omega arith in
-    rw (e, get_or-set_other a (k + 1 + n) k x 0 g, get_or-set_other v (k + 1 + n) k y 0 g) (ap (λ (r : List Call). f (get_or a k 0) (get_or v k 0) ∷ r) (access_more f a v x y (k + 1) n (omega arith) (omega arith)))
+access_more f a v x y k (suc n) j i h l =
+    let g : k ≡ j → ⊥ = λ z. omega arith in
+    rw (get_or-set_other a j k x 0 g, get_or-set_other v j k y 0 g) (ap (λ (r : List Call). f (get_or a k 0) (get_or v k 0) ∷ r) (access_more f a v x y (k + 1) n j (omega arith) h l))
 
 pub accesses_turn : (f : ℕ → ℕ → Call) (a v : List ℕ) (x y i : ℕ) (rest all : List Call) → i < length a → i < length v →
     accesses_from f a v 0 i ++ (f x y ∷ rest) ≡ all → accesses_from f (set a i x) (set v i y) 0 (i + 1) ++ rest ≡ all
 accesses_turn f a v x y i rest all h l e =
-    let z : 0 + i ≡ i = omega arith in
-    let k : accesses_from f (set a i x) (set v i y) 0 (suc i) ≡ accesses_from f a v 0 i ++ (f x y ∷ []) = rw z at (access_more f a v x y 0 i (omega arith) (omega arith)) in
+    let k : accesses_from f (set a i x) (set v i y) 0 (suc i) ≡ accesses_from f a v 0 i ++ (f x y ∷ []) = access_more f a v x y 0 i i (omega arith) h l in
     rw (add-one i, k, append_assoc (accesses_from f a v 0 i) (f x y ∷ []) rest) e
 
 pub words_turn : (l : List ℕ) (x i : ℕ) (rest all : List ℕ) → i < length l → take i l ++ (x ∷ rest) ≡ all → take (i + 1) (set l i x) ++ rest ≡ all

@@ -1,0 +1,7 @@
+use borrow.Author.Rules.{rules}
+use Rattle.machine.specs.Control.{nop_of}
+use Rattle.machine_effects.proofs.control.nop.Goals as goal
+
+pub returns : goal.returns
+unfolding nop_of
+returns c = c.take_off.ensures

@@ -1,0 +1,12 @@
+use borrow.Author.Rules.{rules}
+use Prim.Native.Nat.{◌-◌}
+use Rattle.machine.specs.Ram.{cells}
+use Rattle.machine.specs.Memory.{down}
+use Rattle.machine_effects.proofs.MemoryView.{Reading, reading_start, reading_turn, reading_end}
+use Rattle.machine_effects.proofs.memory.read_down.Given as goal
+
+abbrev pub invariant-loop-i : goal.invariant-loop-i
+invariant-loop-i l = Reading down (cells l.count l.addresses l.values) l.start l.n l.at l.held l.words l.x l.i
+
+abbrev pub decreases-loop-i : goal.decreases-loop-i
+decreases-loop-i l = l.n - l.i

@@ -1,0 +1,5 @@
+use borrow.Author.Rules.{rules}
+use Rattle.machine_place_a.proofs.checks.check_buffer.Goals as goal
+
+pub returns : goal.returns
+returns c = cc

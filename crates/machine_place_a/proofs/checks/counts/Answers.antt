@@ -1,0 +1,5 @@
+use borrow.Author.Rules.{rules}
+use Rattle.machine_place_a.proofs.checks.counts.Goals as goal
+
+pub returns : goal.returns
+returns c = rw (c.past-2.ensures, c.past.ensures, c.past-used.ensures, c.past-put.ensures)

@@ -1,0 +1,15 @@
+use Prim.Native.Nat.{◌-◌, ◌<◌}
+use native.Mathlib.Omega.{arith}
+use lib.ListN.{length}
+use Rattle.machine.specs.Ram.{cells}
+use Rattle.replay_table.proofs.MergeLaws.{Merges, merges_start, merges-top, merges-left, merges_turn, merges_end}
+use Rattle.replay_table.proofs.merge.merge.Reads as reads
+use Rattle.replay_table.proofs.merge.merge.Lts as lts
+use Rattle.replay_table.proofs.merge.top.Reads as top-reads
+use Rattle.replay_table.proofs.merge.merge.Given as goal
+
+abbrev pub invariant-loop-j : goal.invariant-loop-j
+invariant-loop-j l = Merges (cells l.count l.initial.addresses l.initial.values) (cells l.n l.keys l.vals) l.addresses l.values l.i l.j l.at
+
+abbrev pub decreases-loop-j : goal.decreases-loop-j
+decreases-loop-j l = l.at
