@@ -1,0 +1,8 @@
+use Rattle.machine.specs.Arithmetic.{mul_of}
+use Prim.Native.Nat.{◌-◌}
+use borrow.Author.Rules.{rules}
+use Rattle.machine_arithmetic.proofs.arithmetic.mul.Goals as goal
+
+pub returns : goal.returns
+unfolding mul_of
+returns c = rw (c.put1.ensures, c.mul.ensures)

@@ -1,0 +1,9 @@
+use native.Mathlib.Omega.{arith}
+use borrow.Author.Rules.{rules}
+use Rattle.machine_arithmetic.proofs.Bits.{highest_digits}
+use Rattle.machine_arithmetic.proofs.bitwise.highest.Goals as goal
+
+pub returns : goal.returns
+returns c =
+    let e = highest_digits 31 c.args.a c.requires (search rules) in
+    omega arith

@@ -1,0 +1,8 @@
+use native.Mathlib.Omega.{arith}
+use borrow.Author.Rules.{rules}
+use lib.Count.{ones-le}
+use Rattle.machine_arithmetic.proofs.Bits.{ones_digits}
+use Rattle.machine_arithmetic.proofs.bitwise.ones.Goals as goal
+
+pub returns : goal.returns
+returns c = ones_digits 32 c.args.a (search rules)

@@ -1,0 +1,14 @@
+use borrow.Author.Rules.{rules}
+use native.Mathlib.Omega.{arith}
+use Rattle.machine.proofs.Words.{words_get_d}
+use Rattle.machine_helpers.proofs.HelpersLaws.{up_front}
+use Rattle.machine_helpers.proofs.helper_variables.xx_dot_step.Goals as goal
+
+pub read_up-a-requires : goal.read_up-a-requires
+read_up-a-requires c = record { usable = c.requires.usable; word = words_get_d 15 c.requires.words; few = omega arith }
+
+pub read_up-b-requires : goal.read_up-b-requires
+read_up-b-requires c = record { usable = c.requires.usable; word = words_get_d 14 c.requires.words; few = omega arith }
+
+pub returns : goal.returns
+returns c = rw (up_front c.read_up-a.ensures (omega arith), up_front c.read_up-b.ensures (omega arith))

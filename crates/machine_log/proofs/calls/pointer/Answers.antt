@@ -1,0 +1,10 @@
+use native.Mathlib.Omega.{arith}
+use borrow.Author.Rules.{rules}
+use borrow.Author.Tests.{lt-ltb, le-ltb}
+use Rattle.machine_log.proofs.calls.pointer.Goals as goal
+
+pub returns-then-depth-after : goal.returns-then-depth-after
+returns-then-depth-after c = (rw (lt-ltb _ _ c.if-depth-after.true), omega arith, omega arith)
+
+pub returns-else-depth-after : goal.returns-else-depth-after
+returns-else-depth-after c = (rw (le-ltb _ _ c.if-depth-after.false), omega arith, omega arith)

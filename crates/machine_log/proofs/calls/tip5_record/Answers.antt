@@ -1,0 +1,15 @@
+use borrow.Author.Rules.{rules}
+use native.Mathlib.Omega.{arith}
+use Rattle.machine_log.proofs.Logged.{clock_two, head_timed, head_plain, tip5-written}
+use Rattle.machine_log.proofs.calls.tip5_record.Goals as goal
+
+pub put_words-requires : goal.put_words-requires
+put_words-requires c = omega (arith, clock_two _ c.if-revision-eq2.true)
+
+pub returns-then-revision-eq2 : goal.returns-then-revision-eq2
+returns-then-revision-eq2 c =
+    tip5-written _ _ _ 8 _ _ _ _ _ (head_timed _ _ 131844 _ _ _ c.if-revision-eq2.true c.put4.ensures c.put4-then-revision-eq2.ensures) c.put2.ensures c.put_words.ensures
+
+pub returns : goal.returns
+returns c =
+    tip5-written _ _ _ 4 _ _ _ _ _ (head_plain _ _ 131844 _ _ c.if-revision-eq2.false c.put4-2.ensures) c.put2-2.ensures c.put_words-2.ensures
