@@ -1,0 +1,28 @@
+use borrow.Author.Rules.{rules}
+use mathlib.Core.Path.{◌≡◌, refl}
+use Prim.Native.Nat.{◌+◌, ◌-◌, ◌^◌, ◌<◌, ◌≤◌}
+use native.Mathlib.Omega.{arith}
+use lib.ListN.{take, drop}
+use Rattle.machine.specs.Bytes.{number_of}
+use Rattle.job.proofs.FrameLaws.{number-none, number_start, number-room, number_more, number_size, number-done}
+use Rattle.job.proofs.frame.number_at.Goals as goal
+
+pub loop-i-init : goal.loop-i-init
+loop-i-init c =
+    let a = c.args in
+    (omega arith, number-none _ a.n, number_start a.n)
+
+pub loop-i-preserved : goal.loop-i-preserved
+loop-i-preserved c =
+    let l = c.loop-i in
+    (
+      omega arith,
+      number_more _ a.args.at a.args.n l.i _ l.v _ a.requires.0 l.invariant.0 (omega arith) refl c.wide.ensures.0 l.invariant.1,
+      number_size a.args.n l.i _ l.v _ l.invariant.0 (omega arith) refl c.wide.ensures.1 l.invariant.2,
+    )
+
+pub returns : goal.returns
+returns c =
+    let l = c.loop-i in
+    let a = c.args in
+    number-done _ a.at a.n l.i l.v (omega arith) l.invariant.1 l.invariant.2

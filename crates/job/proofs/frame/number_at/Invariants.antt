@@ -1,0 +1,14 @@
+use borrow.Author.Rules.{rules}
+use mathlib.Core.Path.{◌≡◌, refl}
+use Prim.Native.Nat.{◌+◌, ◌-◌, ◌^◌, ◌<◌, ◌≤◌}
+use native.Mathlib.Omega.{arith}
+use lib.ListN.{take, drop}
+use Rattle.machine.specs.Bytes.{number_of}
+use Rattle.job.proofs.FrameLaws.{number-none, number_start, number-room, number_more, number_size, number-done}
+use Rattle.job.proofs.frame.number_at.Given as goal
+
+abbrev pub invariant-loop-i : goal.invariant-loop-i
+invariant-loop-i l = (l.i ≤ l.n) × (l.v ≡ number_of (take (l.n - l.i) (drop (l.at + l.i) l.b))) × (l.v < 256 ^ (l.n - l.i))
+
+abbrev pub decreases-loop-i : goal.decreases-loop-i
+decreases-loop-i l = l.i

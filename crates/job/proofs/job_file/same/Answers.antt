@@ -1,0 +1,9 @@
+use borrow.Author.Tests.{eq-eqb, ne_eqb}
+use Rattle.job.proofs.job_file.same.Goals as goal
+
+-- `job::job_file::same` meets its contract. Assumes nothing.
+pub returns-then-a-b : goal.returns-then-a-b
+returns-then-a-b c = rw (eq-eqb _ _ c.if-a-b.true)
+
+pub returns-else-a-b : goal.returns-else-a-b
+returns-else-a-b c = rw (ne_eqb _ _ c.if-a-b.false)

@@ -1,0 +1,17 @@
+use borrow.Author.Rules.{rules}
+use mathlib.Core.Path.{◌∙◌}
+use Rattle.job.specs.JobFile.{pieces_of}
+use Rattle.job.proofs.JobFileLaws.{wanted-opcodes, wanted_arguments, filled-count, column-same}
+use Rattle.job.proofs.job_file.slots_of.Goals as goal
+
+-- `job::job_file::slots_of` meets its contract. Assumes nothing.
+pub column-requires : goal.column-requires
+column-requires c = wanted-opcodes c.args.file.now _ c.requires.0 c.requires.1
+
+pub column-requires-2 : goal.column-requires-2
+column-requires-2 c = wanted_arguments c.args.file.now _ c.requires.0 c.requires.2
+
+pub returns : goal.returns
+returns c =
+    let f = c.column-2.ensures in
+    (filled-count c.column.ensures (f.count ∙ column-same 12 2 8 0 2 (pieces_of c.args.file.now)), f)

@@ -1,0 +1,16 @@
+use borrow.Author.Rules.{rules}
+use mathlib.Core.Path.{◌≡◌, refl}
+use Prim.Native.Nat.{◌*◌, ◌-◌, ◌≤◌}
+use native.Mathlib.Omega.{arith}
+use lib.ListN.{length, take}
+use lib.Seq.{take-length}
+use Rattle.job.specs.Listing.{Put}
+use Rattle.job.specs.Printed.{out_lines}
+use Rattle.job.proofs.ListingLaws.{put-none, put_as, put-more, out_none, out_more}
+use Rattle.job.proofs.listing.out_lines.Given as goal
+
+abbrev pub invariant-loop-i : goal.invariant-loop-i
+invariant-loop-i l = (l.i ≤ length l.words) × (length l.b ≡ length l.initial.b) × Put l.initial.b l.b l.at (out_lines (take l.i l.words)) (25 * l.i) l.next
+
+abbrev pub decreases-loop-i : goal.decreases-loop-i
+decreases-loop-i l = length l.words - l.i

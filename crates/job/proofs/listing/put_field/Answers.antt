@@ -1,0 +1,15 @@
+use borrow.Author.Rules.{rules}
+use mathlib.Core.Path.{refl}
+use native.Mathlib.Omega.{arith}
+use Rattle.job.specs.Listing.{field_of}
+use Rattle.job.proofs.ListingLaws.{decimal_few, put-more}
+use Rattle.job.proofs.listing.put_field.Goals as goal
+
+-- `job::listing::put_field` meets its contract. Assumes nothing.
+pub put_decimal-next-requires : goal.put_decimal-next-requires
+put_decimal-next-requires c = omega (arith, decimal_few c.args.v)
+
+pub returns : goal.returns
+unfolding field_of
+returns c =
+    put-more (omega arith) c.put_decimal-next.ensures c.put_byte.ensures refl refl

@@ -1,0 +1,8 @@
+use mathlib.Core.Path.{refl}
+use Rattle.machine.specs.Hashing.{reversed}
+use borrow.Author.Rules.{rules}
+use Rattle.machine_hashing.proofs.hashing.rate.Goals as goal
+
+pub returns : goal.returns
+unfolding reversed
+returns c = refl

@@ -1,0 +1,6 @@
+use Rattle.machine_hashing.proofs.HashedLaws.{hashed-refuses}
+use borrow.Author.Rules.{rules}
+use Rattle.machine_hashing.proofs.hashing.refused.Goals as goal
+
+pub returns : goal.returns
+returns c = hashed-refuses _ _ c.refuse.ensures

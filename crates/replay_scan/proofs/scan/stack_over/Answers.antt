@@ -1,0 +1,6 @@
+use borrow.Author.Rules.{rules}
+use Rattle.replay_scan.proofs.scan.stack_over.Goals as goal
+
+pub returns : goal.returns
+returns c =
+    rw (c.first.ensures, c.other_way.ensures, c.above.ensures)
