@@ -1,5 +1,5 @@
 -- The records between two places of a log. Assumes nothing.
-use mathlib.Core.Path.{◌≡◌, refl, sym, ap, ◌∙◌}
+use mathlib.Core.Path.{◌≡◌, refl, sym, ap, subst, ◌∙◌}
 use mathlib.Core.Bool.{Bool, true, false}
 use mathlib.Core.List.{List, [], ◌∷◌, ◌++◌}
 use Prim.Native.Nat.{ℕ, ◌+◌, ◌-◌, ◌≤◌, ◌<◌}
@@ -43,13 +43,17 @@ walk-rest {s} {a} {b} {to} {rs} {ss} ih w v z = go (ltb a (length s.bytes)) refl
         let k : length s.bytes ≤ b = omega arith in
         walk_past w l ∙ sym (walk_past v k)
 
+walks-alike : {s : Log} {i k j to : ℕ} {rs ss : List Record} → Walk s i k rs → Walk s j to ss → i ≡ j → k ≡ to → rs ≡ ss
+walks-alike Walk.none Walk.none g h = refl
+walks-alike Walk.none (Walk.more n e p l w) g h = absurd (omega (arith, walk_within w))
+walks-alike (Walk.more n e p l w) Walk.none g h = absurd (omega (arith, walk_within w))
+walks-alike {s} {i} {k} {j} {to} (Walk.more n {r = r} {rs = rs} e p l w) (Walk.more m {r = q} {rs = ss} f o t v) g h =
+    let x : r ≡ q = cc in
+    let y : drop (i + n) s.bytes ≡ drop (j + m) s.bytes = cc in
+    let u : Walk s (j + m) k ss = subst (λ (z : ℕ). Walk s (j + m) z ss) (sym h) v in
+    let z : rs ≡ ss = walk-rest (λ u. walks-alike w u refl refl) w u (same_length s.bytes (i + n) (j + m) y) in
+    ap (λ (h : Record). h ∷ rs) x ∙ ap (λ (t : List Record). q ∷ t) z
+
 -- the records between two places are these and no others
 pub walk_same : {s : Log} {i k : ℕ} {rs ss : List Record} → Walk s i k rs → Walk s i k ss → rs ≡ ss
-walk_same Walk.none Walk.none = refl
-walk_same Walk.none (Walk.more n e p l w) = absurd (omega (arith, walk_within w))
-walk_same (Walk.more n e p l w) Walk.none = absurd (omega (arith, walk_within w))
-walk_same {s} {i} {k} (Walk.more n {r = r} {rs = rs} e p l w) (Walk.more m {r = q} {rs = ss} f o t v) =
-    let x : r ≡ q = cc in
-    let y : drop (i + n) s.bytes ≡ drop (i + m) s.bytes = cc in
-    let z : rs ≡ ss = walk-rest (λ u. walk_same w u) w v (same_length s.bytes (i + n) (i + m) y) in
-    λ a. x a ∷ z a
+walk_same w v = walks-alike w v refl refl

@@ -17,8 +17,8 @@ loop-i-preserved c =
     let l = c.loop-i in
     (
       omega arith,
-      number_more _ a.args.at a.args.n l.i _ l.v _ a.requires.0 l.invariant.0 (omega arith) refl c.wide.ensures.0 l.invariant.1,
-      number_size a.args.n l.i _ l.v _ l.invariant.0 (omega arith) refl c.wide.ensures.1 l.invariant.2,
+      number_more _ c.args.at c.args.n l.i _ l.v _ c.requires.0 l.invariant.0 (omega arith) refl c.wide.ensures.0 l.invariant.1,
+      number_size c.args.n l.i _ l.v _ l.invariant.0 (omega arith) refl c.wide.ensures.1 l.invariant.2,
     )
 
 pub returns : goal.returns

@@ -39,7 +39,7 @@ loop-n-preserved c =
     let l = c.loop-n in
     let a = c.args in
     let w = whole-place a.log.now l.at l.n l.invariant.0 c.loop-n-test.true l.invariant.1 in
-    (omega (arith, w.2), c.record_length-n-in-loop-n.ensures, search rules, lines_more (omega arith) l.invariant.0 c.loop-n-test.true l.invariant.1 l.invariant.3 c.line_at_lem.ensures)
+    (omega (arith, w.2), c.record_length-n-in-loop-n.ensures, search rules, lines_more (omega arith) l.invariant.0 c.loop-n-test.true l.invariant.1 l.invariant.3 c.line_at-next.ensures)
 
 pub returns : goal.returns
 returns c =

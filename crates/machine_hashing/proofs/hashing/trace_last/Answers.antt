@@ -8,4 +8,4 @@ pub returns : goal.returns
 unfolding hashed_of decision_of
 returns c =
     let d = c.args.decided in
-    rw c.last_state.ensures (last_by d.verdict (effect_of d.effect) _ _)
+    rw c.last_state.ensures (last_by d.verdict (effect_of d.effect) c.args.opcode c.args.trace)

@@ -10,12 +10,12 @@ returns-then-clock-f c =
 
 pub returns-then-not-fields_fit : goal.returns-then-not-fields_fit
 returns-then-not-fields_fit c =
-    own_40 _ _ _ _ c.fields_fit.result c.fields_fit.ensures c.if-clock-f.false (not-true _ c.if-not-fields_fit.true) c.off-then-not-fields_fit.ensures
+    own_40 _ _ _ _ c.fields_fit.result c.fields_fit.ensures c.if-clock-f.false c.if-not-fields_fit.true c.off-then-not-fields_fit.ensures
 
 pub returns-then-f-counts : goal.returns-then-f-counts
 returns-then-f-counts c =
-    own_41 _ _ _ _ c.fields_fit.result c.fields_fit.ensures c.if-clock-f.false (not-false _ c.if-not-fields_fit.false) c.if-f-counts.true c.off-then-f-counts.ensures
+    own_41 _ _ _ _ c.fields_fit.result c.fields_fit.ensures c.if-clock-f.false c.if-not-fields_fit.false c.if-f-counts.true c.off-then-f-counts.ensures
 
 pub returns : goal.returns
 returns c =
-    own-goes _ _ _ _ c.fields_fit.result c.fields_fit.ensures c.if-clock-f.false (not-false _ c.if-not-fields_fit.false) c.if-f-counts.false refl refl
+    own-goes _ _ _ _ c.fields_fit.result c.fields_fit.ensures c.if-clock-f.false c.if-not-fields_fit.false c.if-f-counts.false refl refl

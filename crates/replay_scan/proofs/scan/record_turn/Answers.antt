@@ -20,7 +20,7 @@ ram_fields-f-requires c =
 
 pub returns-then-kind-eq5 : goal.returns-then-kind-eq5
 returns-then-kind-eq5 c =
-    turn_ram _ _ _ _ _ _ _ c.requires.2 _ c.if-kind-eq5.true c.ram_fields-f.ensures c.ram_turn_lem.ensures
+    turn_ram _ _ _ _ _ _ _ c.requires.2 _ c.if-kind-eq5.true c.ram_fields-f.ensures c.ram_turn.ensures
 
 pub timed_clock-t-requires : goal.timed_clock-t-requires
 timed_clock-t-requires c =
