@@ -1,0 +1,36 @@
+use borrow.Author.Rules.{rules}
+use mathlib.Core.Path.{◌≡◌, sym}
+use native.Mathlib.Omega.{arith}
+use borrow.Author.Tests.{le-ltb}
+use lib.ListN.{get_or}
+use Rattle.machine.proofs.Words.{words_get_d}
+use Rattle.machine_decide.specs.PlaceBView.{place_b}
+use Rattle.machine_decide.proofs.PlaceBLaws.{grown_few, shrunk_few, b_here, shallow-is, shallow-not}
+use Rattle.machine_decide.proofs.place_b.place_b.Goals as goal
+
+-- `machine_decide::place_b::place_b` meets its contract. Assumes nothing.
+pub returns-then-state : goal.returns-then-state
+unfolding place_b
+returns-then-state c = rw c.if-state.true
+
+pub returns-then-at-opcodes : goal.returns-then-at-opcodes
+unfolding place_b
+returns-then-at-opcodes c = rw (c.if-state.false, le-ltb _ _ c.if-at-opcodes.true)
+
+pub returns-then-state-grown : goal.returns-then-state-grown
+returns-then-state-grown c = b_here _ _ _ c.if-state.false c.if-at-opcodes.false (shallow-is _ _ _ c.grown-grown.ensures c.shrunk-shrunk.ensures c.if-state-grown.true)
+
+pub returns-else-state-grown : goal.returns-else-state-grown
+returns-else-state-grown c = b_here _ _ _ c.if-state.false c.if-at-opcodes.false (shallow-not _ _ _ c.grown-grown.ensures c.shrunk-shrunk.ensures c.if-state-grown.false)
+
+pub overflow_add-state : goal.overflow_add-state
+overflow_add-state c =
+    let a = c.args in
+    let n = words_get_d a.state.pointer c.requires.words in
+    omega (arith, c.requires.depth, c.grown-grown.ensures, grown_few (get_or a.opcodes.now a.state.pointer 0) (get_or a.arguments.now a.state.pointer 0), n)
+
+pub overflow_add-shrunk : goal.overflow_add-shrunk
+overflow_add-shrunk c =
+    let a = c.args in
+    let n = words_get_d a.state.pointer c.requires.words in
+    omega (arith, c.shrunk-shrunk.ensures, shrunk_few (get_or a.opcodes.now a.state.pointer 0) (get_or a.arguments.now a.state.pointer 0), n)
