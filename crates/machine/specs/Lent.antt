@@ -1,7 +1,7 @@
--- What is lent, as a contract names it: the program with its inputs, and the memory. `At` is for a `requires`, where a parameter is its value; in an
--- `ensures` it is that value at entry (`In`) and what it refers to at exit (`Out`).
+-- What is lent, as a contract names it: the program with its inputs, and the memory. `at` is for a `requires`, where a parameter is its value; in an
+-- `ensures` it is that value at entry (`in`) and what it refers to at exit (`out`). Memory that a call may only look at is `seen`.
 use Rattle.std.specs.Prelude.{ℕ, List}
-use Rattle.std.specs.Borrow.{Bor}
+use denote.Ref.{Bor, MutBor}
 use denote.Triple.Both.{Both}
 use Rattle.machine.specs.Machine.{Code, Memory, code, memory}
 
@@ -11,17 +11,29 @@ Slice = Bor (List ℕ)
 abbrev pub Slices : Type 0
 Slices = Both Slice Slice
 
+abbrev pub MutSlice : Type 0
+MutSlice = MutBor (List ℕ)
+
+abbrev pub MutSlices : Type 0
+MutSlices = Both MutSlice MutSlice
+
 abbrev pub code_at : Slice → Slice → Slice → Slice → Slice → Code
 code_at o a u s d = code o.now a.now u.now s.now d.now
 
-abbrev pub memory_at : Slice → Slice → Slice → Slice → Slice → Slice → Memory
+abbrev pub memory_at : MutSlice → MutSlice → MutSlice → MutSlice → MutSlice → MutSlice → Memory
 memory_at s o d a v w = memory s.now o.now d.now a.now v.now w.now
+
+abbrev pub seen_at : Slice → Slice → Slice → Slice → Slice → Slice → Memory
+seen_at s o d a v w = memory s.now o.now d.now a.now v.now w.now
 
 abbrev pub code_in : Slices → Slices → Slices → Slices → Slices → Code
 code_in o a u s d = code_at o.entry a.entry u.entry s.entry d.entry
 
-abbrev pub memory_in : Slices → Slices → Slices → Slices → Slices → Slices → Memory
+abbrev pub memory_in : MutSlices → MutSlices → MutSlices → MutSlices → MutSlices → MutSlices → Memory
 memory_in s o d a v w = memory_at s.entry o.entry d.entry a.entry v.entry w.entry
 
-abbrev pub memory_out : Slices → Slices → Slices → Slices → Slices → Slices → Memory
+abbrev pub memory_out : MutSlices → MutSlices → MutSlices → MutSlices → MutSlices → MutSlices → Memory
 memory_out s o d a v w = memory_at s.exit o.exit d.exit a.exit v.exit w.exit
+
+abbrev pub seen_in : Slices → Slices → Slices → Slices → Slices → Slices → Memory
+seen_in s o d a v w = seen_at s.entry o.entry d.entry a.entry v.entry w.entry

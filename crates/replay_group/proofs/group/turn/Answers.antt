@@ -15,11 +15,11 @@ ram_fields-f-requires c =
 
 pub returns-then-not-within : goal.returns-then-not-within
 returns-then-not-within c =
-    ram_outside _ _ _ _ _ _ _ _ _ c.if-kind-ne5.false c.ram_fields-f.ensures (sym c.within.ensures ∙ not-true _ c.if-not-within.true)
+    ram_outside _ _ _ _ _ _ _ _ _ c.if-kind-ne5.false c.ram_fields-f.ensures (sym c.within.ensures ∙ c.if-not-within.true)
 
 pub returns-then-f-ne0 : goal.returns-then-f-ne0
 returns-then-f-ne0 c =
-    ram-write _ _ _ _ _ _ _ _ _ c.if-kind-ne5.false c.ram_fields-f.ensures (sym c.within.ensures ∙ not-false _ c.if-not-within.false) c.if-f-ne0.true c.put.ensures
+    ram-write _ _ _ _ _ _ _ _ _ c.if-kind-ne5.false c.ram_fields-f.ensures (sym c.within.ensures ∙ c.if-not-within.false) c.if-f-ne0.true c.put.ensures
 
 pub returns-then-not-checking : goal.returns-then-not-checking
 returns-then-not-checking c =
@@ -27,8 +27,8 @@ returns-then-not-checking c =
 
 pub returns-then-f-word : goal.returns-then-f-word
 returns-then-f-word c =
-    ram-right _ _ _ _ _ _ _ _ _ c.if-kind-ne5.false c.ram_fields-f.ensures c.if-f-ne0.false (c.if-f-word.true ∙ c.word_at-word.ensures) (sym c.within.ensures ∙ not-false _ c.if-not-within.false)
+    ram-right _ _ _ _ _ _ _ _ _ c.if-kind-ne5.false c.ram_fields-f.ensures c.if-f-ne0.false (c.if-f-word.true ∙ c.word_at-word.ensures) (sym c.within.ensures ∙ c.if-not-within.false)
 
 pub returns : goal.returns
 returns c =
-    ram-wrong _ _ _ _ _ _ _ _ _ c.if-kind-ne5.false c.ram_fields-f.ensures c.if-f-ne0.false c.if-not-checking.false (sym c.within.ensures ∙ not-false _ c.if-not-within.false) (λ e. c.if-f-word.false (e ∙ sym c.word_at-word.ensures))
+    ram-wrong _ _ _ _ _ _ _ _ _ c.if-kind-ne5.false c.ram_fields-f.ensures c.if-f-ne0.false c.if-not-checking.false (sym c.within.ensures ∙ c.if-not-within.false) (λ e. c.if-f-word.false (e ∙ sym c.word_at-word.ensures))
