@@ -1,5 +1,6 @@
 // The parts of the program runjob that are proved: reading a job file, writing the lines that it prints.
 #![tactic(auto)]
+
 pub mod frame;
 pub mod job_file;
 pub mod listing;

@@ -1,4 +1,3 @@
-use borrow.Author.Rules.{rules}
 use mathlib.Core.Path.{◌∙◌}
 use Rattle.job.proofs.FrameLaws.{kind_at}
 use Rattle.job.proofs.frame.kind_at.Goals as goal

@@ -1,10 +1,7 @@
-use borrow.Author.Rules.{rules}
-use mathlib.Core.Path.{◌≡◌, refl}
+use mathlib.Core.Path.{◌≡◌}
 use Prim.Native.Nat.{◌+◌, ◌-◌, ◌^◌, ◌<◌, ◌≤◌}
-use native.Mathlib.Omega.{arith}
 use lib.ListN.{take, drop}
 use Rattle.machine.specs.Bytes.{number_of}
-use Rattle.job.proofs.FrameLaws.{number-none, number_start, number-room, number_more, number_size, number-done}
 use Rattle.job.proofs.frame.number_at.Given as goal
 
 abbrev pub invariant-loop-i : goal.invariant-loop-i

@@ -1,4 +1,3 @@
-use borrow.Author.Rules.{rules}
 use mathlib.Core.Path.{sym, ◌∙◌}
 use Rattle.job.proofs.FrameLaws.{whole-none, whole-other, whole-short, whole_is}
 use Rattle.job.proofs.frame.whole_at.Goals as goal

@@ -1,4 +1,3 @@
-use borrow.Author.Rules.{rules}
 use mathlib.Core.Path.{refl}
 use Rattle.job.proofs.JobFileLaws.{wanted_budget, filled_one, budget_few}
 use Rattle.job.proofs.job_file.budget_of.Goals as goal

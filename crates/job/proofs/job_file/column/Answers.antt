@@ -1,15 +1,22 @@
 use borrow.Author.Rules.{rules}
-use mathlib.Core.Path.{◌≡◌, refl}
-use Prim.Native.Nat.{◌-◌, ◌≤◌}
+use mathlib.Core.Path.{refl}
 use native.Mathlib.Omega.{arith}
-use lib.ListN.{length}
-use Rattle.job.proofs.JobFileLaws.{Columns, columns-none, columns-all, columns-more, column-inside, column-room, place-next, length-few}
+use Rattle.job.proofs.JobFileLaws.{columns-none, columns-all, columns-more, column-inside, column-room, place-next, length-few}
 use Rattle.job.proofs.job_file.column.Goals as goal
 
 pub loop-at-init : goal.loop-at-init
 loop-at-init c =
     let a = c.args in
     (omega arith, refl, columns-none a.file.now a.out.now a.kind a.from a.n a.m)
+
+pub overflow_add-at-in-loop-at : goal.overflow_add-at-in-loop-at
+overflow_add-at-in-loop-at c = omega (arith, c.requires.short, c.requires.within, length-few c.args.kind)
+
+pub overflow_add-at-in-loop-at-2 : goal.overflow_add-at-in-loop-at-2
+overflow_add-at-in-loop-at-2 c =
+    let p = c.piece_at-p in
+    let w = place-next c.args.file.now c.loop-at.at p.result.size p.ensures.1 (omega arith) in
+    omega (arith, w.1, c.requires.short)
 
 pub put_numbers-to-requires : goal.put_numbers-to-requires
 put_numbers-to-requires c =

@@ -1,9 +1,7 @@
-use borrow.Author.Rules.{rules}
-use mathlib.Core.Path.{◌≡◌, refl}
+use mathlib.Core.Path.{◌≡◌}
 use Prim.Native.Nat.{◌-◌, ◌≤◌}
-use native.Mathlib.Omega.{arith}
 use lib.ListN.{length}
-use Rattle.job.proofs.JobFileLaws.{Columns, columns-none, columns-all, columns-more, column-inside, column-room, place-next, length-few}
+use Rattle.job.proofs.JobFileLaws.{Columns}
 use Rattle.job.proofs.job_file.column.Given as goal
 
 abbrev pub invariant-loop-at : goal.invariant-loop-at

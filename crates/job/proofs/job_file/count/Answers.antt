@@ -1,14 +1,15 @@
-use borrow.Author.Rules.{rules}
-use mathlib.Core.Path.{◌≡◌}
-use Prim.Native.Nat.{◌+◌, ◌-◌, ◌≤◌}
 use native.Mathlib.Omega.{arith}
-use lib.ListN.{length, drop}
-use Rattle.job.specs.JobFile.{pieces_of, count_of}
 use Rattle.job.proofs.JobFileLaws.{place-next, count-few, count-more, count-all}
 use Rattle.job.proofs.job_file.count.Goals as goal
 
 pub loop-at-init : goal.loop-at-init
 loop-at-init c = (omega arith, omega arith, omega arith)
+
+pub overflow_add-at : goal.overflow_add-at
+overflow_add-at c =
+    let p = c.piece_at-p in
+    let w = place-next c.args.file.now c.loop-at.at p.result.size p.ensures.1 (omega arith) in
+    omega (arith, w.1)
 
 pub loop-at-smaller : goal.loop-at-smaller
 loop-at-smaller c =

@@ -1,10 +1,7 @@
-use borrow.Author.Rules.{rules}
 use mathlib.Core.Path.{◌≡◌}
 use Prim.Native.Nat.{◌+◌, ◌-◌, ◌≤◌}
-use native.Mathlib.Omega.{arith}
 use lib.ListN.{length, drop}
 use Rattle.job.specs.JobFile.{pieces_of, count_of}
-use Rattle.job.proofs.JobFileLaws.{place-next, count-few, count-more, count-all}
 use Rattle.job.proofs.job_file.count.Given as goal
 
 abbrev pub invariant-loop-at : goal.invariant-loop-at

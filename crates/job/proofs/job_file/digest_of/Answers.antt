@@ -1,4 +1,3 @@
-use borrow.Author.Rules.{rules}
 use mathlib.Core.Path.{refl}
 use Rattle.job.proofs.JobFileLaws.{wanted_digest, filled-all, digest_long}
 use Rattle.job.proofs.job_file.digest_of.Goals as goal

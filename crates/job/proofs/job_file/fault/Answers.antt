@@ -1,4 +1,3 @@
-use borrow.Author.Rules.{rules}
 use Rattle.job.specs.JobFile.{fault_of}
 use Rattle.job.proofs.job_file.fault.Goals as goal
 

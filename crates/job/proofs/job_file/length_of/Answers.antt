@@ -1,3 +1,4 @@
+use borrow.Author.Rules.{rules}
 use mathlib.Core.Path.{refl}
 use native.Mathlib.Omega.{arith}
 use Rattle.job.specs.JobFile.{length_in}
@@ -34,6 +35,4 @@ unfolding length_in
 returns-in-17 c = rw c.in-17.is (refl, omega arith)
 
 pub returns-in_default : goal.returns-in_default
-returns-in_default c =
-    let r = c.in_default.in_default-own.rest in
-    (length-unknown c.args.kind r.0.0.0.0.0.0.1 r.0.0.0.0.0.1 r.0.0.0.0.1 r.0.0.0.1 r.0.0.1 r.0.1 r.1, omega arith)
+returns-in_default c = (length-unknown c.args.kind (search rules) (search rules) (search rules) (search rules) (search rules) (search rules) (search rules), omega arith)

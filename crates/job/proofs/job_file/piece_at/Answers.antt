@@ -1,4 +1,3 @@
-use borrow.Author.Rules.{rules}
 use Rattle.job.proofs.JobFileLaws.{piece-none, piece_some, piece_long}
 use Rattle.job.proofs.job_file.piece_at.Goals as goal
 

@@ -1,10 +1,7 @@
-use borrow.Author.Rules.{rules}
 use mathlib.Core.Path.{◌≡◌, refl}
-use Prim.Native.Nat.{◌+◌, ◌-◌, ◌≤◌}
+use Prim.Native.Nat.{◌+◌}
 use native.Mathlib.Omega.{arith}
-use lib.ListN.{length, drop, length-set}
-use Rattle.job.specs.Listing.{Put}
-use Rattle.job.specs.JobFile.{numbers_in}
+use lib.ListN.{length-set}
 use Rattle.job.proofs.JobFileLaws.{put_start, numbers_more, inside-at}
 use Rattle.job.proofs.ListingLaws.{put-at, put-more}
 use Rattle.job.proofs.job_file.put_numbers.Goals as goal

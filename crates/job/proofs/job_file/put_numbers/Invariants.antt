@@ -1,12 +1,8 @@
-use borrow.Author.Rules.{rules}
-use mathlib.Core.Path.{◌≡◌, refl}
+use mathlib.Core.Path.{◌≡◌}
 use Prim.Native.Nat.{◌+◌, ◌-◌, ◌≤◌}
-use native.Mathlib.Omega.{arith}
-use lib.ListN.{length, drop, length-set}
+use lib.ListN.{length, drop}
 use Rattle.job.specs.Listing.{Put}
 use Rattle.job.specs.JobFile.{numbers_in}
-use Rattle.job.proofs.JobFileLaws.{put_start, numbers_more, inside-at}
-use Rattle.job.proofs.ListingLaws.{put-at, put-more}
 use Rattle.job.proofs.job_file.put_numbers.Given as goal
 
 abbrev pub invariant-loop-i : goal.invariant-loop-i

@@ -1,4 +1,3 @@
-use borrow.Author.Rules.{rules}
 use mathlib.Core.Path.{◌≡◌, refl, sym, ◌∙◌}
 use Rattle.job.specs.JobFile.{fault_of}
 use Rattle.job.proofs.JobFileLaws.{wanted_public, wanted_secret, wanted_digests, job_good, job-broken, says-broken}
@@ -41,12 +40,12 @@ returns c =
     (record {
       number = refl;
       digest = c.digest_of-digest.ensures;
-      opcodes = c.slots_of-slots.ensures.0;
-      arguments = c.slots_of-slots.ensures.1;
+      opcodes = c.slots_of-slots.ensures.filled;
+      arguments = c.slots_of-slots.ensures.filled_2;
       public = c.column-publics.ensures;
       secret = c.column-secrets.ensures;
       digests = c.column-words.ensures;
-      addresses = c.cells_of-cells.ensures.0;
-      values = c.cells_of-cells.ensures.1;
+      addresses = c.cells_of-cells.ensures.filled;
+      values = c.cells_of-cells.ensures.filled_2;
       budget = c.budget_of.ensures;
     })

@@ -1,4 +1,3 @@
-use borrow.Author.Rules.{rules}
 use Rattle.job.specs.JobFile.{length_in}
 use Rattle.job.proofs.FrameLaws.{size_short, size_is}
 use Rattle.job.proofs.job_file.size_at.Goals as goal

@@ -1,4 +1,3 @@
-use borrow.Author.Rules.{rules}
 use mathlib.Core.Path.{◌∙◌}
 use Rattle.job.specs.JobFile.{pieces_of}
 use Rattle.job.proofs.JobFileLaws.{wanted-opcodes, wanted_arguments, filled-count, column-same}
@@ -14,4 +13,7 @@ column-requires-2 c = wanted_arguments c.args.file.now _ c.requires.0 c.requires
 pub returns : goal.returns
 returns c =
     let f = c.column-2.ensures in
-    (filled-count c.column.ensures (f.count ∙ column-same 12 2 8 0 2 (pieces_of c.args.file.now)), f)
+    record {
+      filled = filled-count c.column.ensures (f.count ∙ column-same 12 2 8 0 2 (pieces_of c.args.file.now));
+      filled_2 = f;
+    }

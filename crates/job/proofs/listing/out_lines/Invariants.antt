@@ -1,12 +1,8 @@
-use borrow.Author.Rules.{rules}
-use mathlib.Core.Path.{◌≡◌, refl}
+use mathlib.Core.Path.{◌≡◌}
 use Prim.Native.Nat.{◌*◌, ◌-◌, ◌≤◌}
-use native.Mathlib.Omega.{arith}
 use lib.ListN.{length, take}
-use lib.Seq.{take-length}
 use Rattle.job.specs.Listing.{Put}
 use Rattle.job.specs.Printed.{out_lines}
-use Rattle.job.proofs.ListingLaws.{put-none, put_as, put-more, out_none, out_more}
 use Rattle.job.proofs.listing.out_lines.Given as goal
 
 abbrev pub invariant-loop-i : goal.invariant-loop-i

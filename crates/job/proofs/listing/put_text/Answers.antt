@@ -1,9 +1,5 @@
-use borrow.Author.Rules.{rules}
-use mathlib.Core.Path.{◌≡◌, refl}
-use Prim.Native.Nat.{◌-◌, ◌≤◌}
+use mathlib.Core.Path.{refl}
 use native.Mathlib.Omega.{arith}
-use lib.ListN.{length, take}
-use Rattle.job.specs.Listing.{Put}
 use Rattle.job.proofs.ListingLaws.{put-none, put_all, put-more, text_more}
 use Rattle.job.proofs.listing.put_text.Goals as goal
 

@@ -1,10 +1,7 @@
-use borrow.Author.Rules.{rules}
-use mathlib.Core.Path.{◌≡◌, refl}
+use mathlib.Core.Path.{◌≡◌}
 use Prim.Native.Nat.{◌-◌, ◌≤◌}
-use native.Mathlib.Omega.{arith}
 use lib.ListN.{length, take}
 use Rattle.job.specs.Listing.{Put}
-use Rattle.job.proofs.ListingLaws.{put-none, put_all, put-more, text_more}
 use Rattle.job.proofs.listing.put_text.Given as goal
 
 abbrev pub invariant-loop-i : goal.invariant-loop-i

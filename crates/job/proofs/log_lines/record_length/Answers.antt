@@ -1,5 +1,4 @@
 use native.Mathlib.Omega.{arith}
-use borrow.Author.Rules.{rules}
 use Rattle.machine.specs.Records.{length_of}
 use Rattle.machine.proofs.Records.{length-small}
 use Rattle.job.proofs.FrameLaws.{size_short, size_is}

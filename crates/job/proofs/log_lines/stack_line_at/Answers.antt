@@ -1,4 +1,3 @@
-use borrow.Author.Rules.{rules}
 use mathlib.Core.Path.{refl}
 use Rattle.job.proofs.LogLinesLaws.{stack-line-is}
 use Rattle.job.proofs.ListingLaws.{put_as}

@@ -1,11 +1,7 @@
 use borrow.Author.Rules.{rules}
-use mathlib.Core.Path.{◌≡◌, refl}
-use Prim.Native.Nat.{◌-◌, ◌≤◌}
+use mathlib.Core.Path.{refl}
 use native.Mathlib.Omega.{arith}
-use lib.ListN.{drop, length}
-use Rattle.machine.specs.Records.{length_of}
-use Rattle.job.specs.Frame.{size_by}
-use Rattle.job.proofs.LogLinesLaws.{Lines, whole-place, lines_none, lines_more, lines-all}
+use Rattle.job.proofs.LogLinesLaws.{whole-place, lines_none, lines_more, lines-all}
 use Rattle.job.proofs.log_lines.stack_lines.Goals as goal
 
 pub loop-n-init : goal.loop-n-init
@@ -32,6 +28,12 @@ loop-n-smaller c =
     let l = c.loop-n in
     let a = c.args in
     let w = whole-place a.log.now l.at l.n l.invariant.0 c.loop-n-test.true l.invariant.1 in
+    omega (arith, w.2)
+
+pub overflow_add-at : goal.overflow_add-at
+overflow_add-at c =
+    let l = c.loop-n in
+    let w = whole-place c.args.log.now l.at l.n l.invariant.0 c.loop-n-test.true l.invariant.1 in
     omega (arith, w.2)
 
 pub loop-n-preserved : goal.loop-n-preserved

@@ -1,11 +1,9 @@
-use borrow.Author.Rules.{rules}
-use mathlib.Core.Path.{◌≡◌, refl}
+use mathlib.Core.Path.{◌≡◌}
 use Prim.Native.Nat.{◌-◌, ◌≤◌}
-use native.Mathlib.Omega.{arith}
 use lib.ListN.{drop, length}
 use Rattle.machine.specs.Records.{length_of}
 use Rattle.job.specs.Frame.{size_by}
-use Rattle.job.proofs.LogLinesLaws.{Lines, whole-place, lines_none, lines_more, lines-all}
+use Rattle.job.proofs.LogLinesLaws.{Lines}
 use Rattle.job.proofs.log_lines.stack_lines.Given as goal
 
 abbrev pub invariant-loop-n : goal.invariant-loop-n

@@ -16,8 +16,8 @@ loop-i-preserved c =
     let l = c.loop-i in
     let z : l.i + 1 ≤ c.args.n = omega arith in
     ⊎_elim
-    (λ w. (z, w.1 ∙ sym (among_here _ _ l.i _ w.0.taken)))
-    (λ w. (z, w.1 ∙ l.invariant.1 ∙ sym (among_past _ _ l.i _ w.0.left)))
+    (λ w. (z, w.found-is ∙ sym (among_here _ _ l.i _ w.if-written-from.true)))
+    (λ w. (z, w.found-is ∙ l.invariant.1 ∙ sym (among_past _ _ l.i _ w.if-written-from.false)))
     c.if-written-from.branch-raw
 
 pub returns : goal.returns

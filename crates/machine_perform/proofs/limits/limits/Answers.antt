@@ -9,9 +9,8 @@ use Rattle.machine_perform.proofs.limits.limits.Goals as goal
 pub returns : goal.returns
 returns c =
     let a = c.args in
-    let y = c.well_formed.1.0.1.1 in
-    let w : length a.effect.words ≡ 16 = length_unmapped ℕ a.effect.words 16 y.1.1.0.1.0.1 in
-    let o : length a.effect.output ≡ 5 = length_unmapped ℕ a.effect.output 5 y.1.1.1.1.1.1.1.1.1.1.1.1.1.0.1.0.1 in
+    let w : length a.effect.words ≡ 16 = search rules in
+    let o : length a.effect.output ≡ 5 = search rules in
     record {
       is = λ k. rw (c.first-2.ensures, c.above-3.ensures, c.first-middle.ensures, c.first.ensures, c.above-2.ensures, c.first-last.ensures, c.above.ensures, c.above-clock.ensures, c.ram_limit-cells.ensures, c.jumps_after-jumps.ensures, c.least-2.ensures, c.least.ensures)
           (limits_is a.state a.effect (memory a.op_stack.now a.origins.now a.destinations.now a.addresses.now a.values.now a.output.now) k w o c.requires.ordered.within c.requires.pair);

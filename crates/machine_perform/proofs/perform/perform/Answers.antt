@@ -11,19 +11,15 @@ use Rattle.machine_perform.proofs.perform.perform.Goals as goal
 pub apply-requires : goal.apply-requires
 apply-requires c =
     let w = c.args.effect.words in
-    let words : length w ≡ 16 = length_unmapped ℕ w 16 c.well_formed.1.0.1.1.1.1.0.1.0.1 in
+    let words : length w ≡ 16 = search rules in
     let d = taken-length c.args.effect.count 16 w words in
     let l = c.least-count.ensures in
     (c.requires.moves.pops, c.requires.depth, omega (arith, c.requires.deeper, d, l), omega (arith, l))
 
-pub slice_bounds-copy-end : goal.slice_bounds-copy-end
-slice_bounds-copy-end c =
-    sym (length_unmapped ℕ c.args.effect.output 5 c.well_formed.1.0.1.1.1.1.1.1.1.1.1.1.1.1.1.1.1.0.1.0.1)
-
 pub copy-requires : goal.copy-requires
 copy-requires c =
     let w = c.args.effect.output in
-    let five : length w ≡ 5 = length_unmapped ℕ w 5 c.well_formed.1.0.1.1.1.1.1.1.1.1.1.1.1.1.1.1.1.0.1.0.1 in
+    let five : length w ≡ 5 = search rules in
     let d = taken-length c.args.effect.outputs 5 w five in
     let l = c.least.ensures in
     (omega (arith, c.requires.output, d, l), omega (arith, l))
@@ -34,9 +30,8 @@ moved-requires c = c.requires.moves
 pub returns : goal.returns
 returns c =
     let x = c.args in
-    let y = c.well_formed.1.0.1.1 in
-    let words : length x.effect.words ≡ 16 = length_unmapped ℕ x.effect.words 16 y.1.1.0.1.0.1 in
-    let five : length x.effect.output ≡ 5 = length_unmapped ℕ x.effect.output 5 y.1.1.1.1.1.1.1.1.1.1.1.1.1.0.1.0.1 in
+    let words : length x.effect.words ≡ 16 = search rules in
+    let five : length x.effect.output ≡ 5 = search rules in
     performed-is x.state x.effect x.pointer x.sponge
     (memory x.op_stack.now x.origins.now x.destinations.now x.addresses.now x.values.now x.output.now)
     c.moved.result c.write_all-used.result c.least-count.result c.least.result _ _ _ _ _ _ words five

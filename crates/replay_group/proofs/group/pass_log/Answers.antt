@@ -70,3 +70,15 @@ returns c =
       half = g.half;
       gathered = λ rs w. onward_end (g.on rs w) c.loop-at-test.false;
     }
+
+pub overflow_add-next : goal.overflow_add-next
+overflow_add-next c =
+    let r = c.requires in
+    let x = next (c.loop-at.invariant.0.on r.0.records r.0.walk) _ c.head_at-h.ensures r.0.ends c.loop-at-test.true in
+    omega (arith, x.fits, r.0.ends)
+
+pub overflow_add-next-in-loop-at : goal.overflow_add-next-in-loop-at
+overflow_add-next-in-loop-at c =
+    let r = c.requires in
+    let x = next (c.loop-at.invariant.0.on r.0.records r.0.walk) _ c.head_at-h.ensures r.0.ends c.loop-at-test.true in
+    omega (arith, x.fits, r.0.ends)

@@ -59,3 +59,19 @@ returns c =
       swept = λ rs w. swept_all _ (ap (λ (x : ℕ). x / 2) (sym l.2)) (rw e at (l.6 rs w));
       whole = λ i j rs w. swept-whole w j i (rw e at (l.6 rs w));
     }
+
+pub overflow_add-cells : goal.overflow_add-cells
+overflow_add-cells c =
+    let r = c.requires in
+    let l = c.loop-lo.invariant in
+    let g = l.6 r.0.records r.0.walk in
+    let d = c.group_from-g.ensures in
+    omega (arith, grouping-fits _ r.0.walk g d.above (d.gathered g.sweeping.done g.sweeping.walk) (c.count_new-cells.ensures.is _ _), walked-ends r.0, c.ranges)
+
+pub overflow_add-groups : goal.overflow_add-groups
+overflow_add-groups c =
+    let r = c.requires in
+    let l = c.loop-lo.invariant in
+    let g = l.6 r.0.records r.0.walk in
+    let d = c.group_from-g.ensures in
+    omega (arith, grouping-few _ r.0.walk g d.above (d.gathered g.sweeping.done g.sweeping.walk) (c.count_new-cells.ensures.is _ _) (omega (arith, r.2.two)) c.loop-lo-test.true, walked-ends r.0, c.ranges, c.well_formed)

@@ -59,3 +59,9 @@ returns c =
     let l = c.loop-lo.invariant in
     let e : c.loop-lo.lo ≡ p = omega (arith, l.0) in
     writing_end r.0 (λ rs w. rw e at (l.7 rs w))
+
+pub overflow_add-groups : goal.overflow_add-groups
+overflow_add-groups c =
+    let r = c.requires in
+    let l = c.loop-lo.invariant in
+    omega (arith, writing-few r.0.walk (l.7 r.0.records r.0.walk) (omega (arith, r.1.two)) c.loop-lo-test.true, r.0.ends)
