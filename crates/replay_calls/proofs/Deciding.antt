@@ -40,6 +40,10 @@ use Rattle.replay_calls.proofs.Decisions.{decided_well, decided-bad}
 not-both : {lo hi : ℕ} {c : Cells} {done : List Record} {r : Record} → RightAt lo hi c done r → WrongAt lo hi c done r → ⊥
 not-both (G.of_outside e) (WrongAt.of_read f n) = apart (sym f ∙ e)
 not-both (RightAt.of_read e) (WrongAt.of_read f n) = n e
+not-both G.of_other n = elim n [ ]
+not-both G.is_of_timed n = elim n [ ]
+not-both G.is_of_stack n = elim n [ ]
+not-both G.of_write n = elim n [ ]
 
 right-at : {lo hi : ℕ} {c : Cells} (done xs : List Record) (r : Record) (rs : List Record) → Right lo hi c done (xs ++ r ∷ rs) → RightAt lo hi c (done ++ xs) r
 right-at done [] r rs (G.more h k) = rw (append-nil done) h

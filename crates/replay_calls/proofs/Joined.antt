@@ -195,6 +195,10 @@ refuse_read {j} {o} {done} x y k (ram t a v zero) rs h q e (WrongAt.of_read i n)
     let s = cells-after h q in
     let f = read-wrong k x t a v (λ w. n (w ∙ s.held_is a)) in
     record { done = done; rest = rs; one = ram t a v 0; stand = strip k x; joined = refl; reads = h; says = ram-refused j k x y t a v 0 43 e f (λ u. omega arith) }
+refuse_read {j} {o} {done} x y k (other _ _) rs h q e n = elim n [ ]
+refuse_read {j} {o} {done} x y k (timed _ _ _) rs h q e n = elim n [ ]
+refuse_read {j} {o} {done} x y k (stack _ _ _ _) rs h q e n = elim n [ ]
+refuse_read {j} {o} {done} x y k (ram t a v (suc _)) rs h q e n = elim n [ ]
 
 -- a right read that is one too many
 refuse_over : {j : ℕ} {o : Built} {done : List Record} {m : ℕ} (x y : Built) (k : Cells) (r : Record) →
@@ -288,7 +292,7 @@ walk-bad {s} {j} {i} {b = b} r (x ∷ done) rest (Walk.more m e q l w) (W.Reads.
     replay_turn s.revision j b (drop i s.bytes)
     ∙ ap (on_parsed b (λ r t. onward b (λ x. replay_from s.revision j x t) (read_of j b r))) e
     ∙ ap (onward b (λ x. replay_from s.revision j x (drop (i + m) s.bytes))) g
-    ∙ walk-bad r done rest w h f
+    ∙ walk-bad {i = i + m} r done rest w h f
 
 pub walk_refused : {s : Log} {j i to n : ℕ} {o : Built} {rs : List Record} → Walk s i to rs → Refuses j o rs n → replay_from s.revision j o (drop i s.bytes) ≡ bad n
 walk_refused w h = walk-bad h.one h.done h.rest (rw h.joined at w) h.reads h.says

@@ -1,0 +1,14 @@
+use borrow.Author.Rules.{rules}
+use mathlib.Core.Path.{refl}
+use Rattle.machine_step.proofs.RecordsLaws.{recorded_some, recorded-none}
+use Rattle.machine_step.proofs.records.plain.Goals as goal
+
+-- `machine_step::records::plain` meets its contract. Assumes nothing.
+pub write_plain-requires : goal.write_plain-requires
+write_plain-requires c = c.requires.room c.if-asked.true
+
+pub returns-then-asked : goal.returns-then-asked
+returns-then-asked c = recorded_some c.if-asked.true refl c.write_plain.ensures
+
+pub returns-else-asked : goal.returns-else-asked
+returns-else-asked c = recorded-none c.if-asked.false
