@@ -9,7 +9,7 @@ ghost use Rattle.exports_words.specs.Calls.{interface_version, called, recorded,
 ghost use Rattle.machine.specs.FeeTable.{fee_table, unpriced, priced};
 ghost use Rattle.machine.specs.Ram.{cells as cells_of};
 ghost use Rattle.machine.specs.Given.{given};
-ghost use Rattle.machine.specs.Lent.{code_in, memory_in, memory_out, seen_in};
+ghost use Rattle.machine.specs.Lent.{code_in, memory_in, memory_out, opening_in, opening_out, seen_in};
 ghost use Rattle.std.specs.Prelude.{◌≡◌};
 
 use exports_calls::helper_variables::helper_call;
@@ -51,10 +51,10 @@ pub extern "C" fn triton_open(
     output: &[u64],
 ) -> u64
     ensures { called result registers.new answer.new
-        (memory_out op_stack origins destinations addresses values output)
+        (opening_out op_stack origins destinations addresses values output)
         ≡ open_call unpriced registers.old answer.old revision digest.now cells
         (code_in opcodes arguments public secret digests)
-        (memory_in op_stack origins destinations addresses values output) }
+        (opening_in op_stack origins destinations addresses values output) }
 {
     open_call(
         registers,
@@ -413,10 +413,10 @@ pub extern "C" fn triton_open_with_fees(
     fees: &[u64],
 ) -> u64
     ensures { called result registers.new answer.new
-        (memory_out op_stack origins destinations addresses values output)
+        (opening_out op_stack origins destinations addresses values output)
         ≡ open_call (priced (fee_table lowest.now highest.now fees.now)) registers.old answer.old revision digest.now cells
         (code_in opcodes arguments public secret digests)
-        (memory_in op_stack origins destinations addresses values output) }
+        (opening_in op_stack origins destinations addresses values output) }
 {
     open_with_fees_call(
         registers,

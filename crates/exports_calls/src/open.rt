@@ -1,7 +1,7 @@
 // open over numbers and slices.
 ghost use Rattle.std.specs.Prelude.{◌≡◌, length};
 ghost use Rattle.machine.specs.FeeTable.{fee_table, unpriced, priced};
-ghost use Rattle.machine.specs.Lent.{code_in, memory_in, memory_out};
+ghost use Rattle.machine.specs.Lent.{code_in, opening_in, opening_out};
 ghost use Rattle.exports_words.specs.Calls.{called};
 ghost use Rattle.exports_calls.specs.OpenCall.{open_fits_of, opened_registers, open_call};
 
@@ -65,10 +65,10 @@ pub fn open_call(
     output: &[u64],
 ) -> u64
     ensures { called result registers.new answer.new
-        (memory_out op_stack origins destinations addresses values output)
+        (opening_out op_stack origins destinations addresses values output)
         ≡ open_call unpriced registers.old answer.old revision digest.now cells
         (code_in opcodes arguments public secret digests)
-        (memory_in op_stack origins destinations addresses values output) }
+        (opening_in op_stack origins destinations addresses values output) }
 {
     if open_fits(registers, answer, digest) {
         let words = read_digest(digest);
@@ -122,10 +122,10 @@ pub fn open_with_fees_call(
     fees: &[u64],
 ) -> u64
     ensures { called result registers.new answer.new
-        (memory_out op_stack origins destinations addresses values output)
+        (opening_out op_stack origins destinations addresses values output)
         ≡ open_call (priced (fee_table lowest.now highest.now fees.now)) registers.old answer.old revision digest.now cells
         (code_in opcodes arguments public secret digests)
-        (memory_in op_stack origins destinations addresses values output) }
+        (opening_in op_stack origins destinations addresses values output) }
 {
     if open_fits(registers, answer, digest) {
         let words = read_digest(digest);

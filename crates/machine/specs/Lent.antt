@@ -37,3 +37,10 @@ memory_out s o d a v w = memory_at s.exit o.exit d.exit a.exit v.exit w.exit
 
 abbrev pub seen_in : Slices → Slices → Slices → Slices → Slices → Slices → Memory
 seen_in s o d a v w = seen_at s.entry o.entry d.entry a.entry v.entry w.entry
+
+-- an opening may change the three stacks, and only looks at RAM and output
+abbrev pub opening_in : MutSlices → MutSlices → MutSlices → Slices → Slices → Slices → Memory
+opening_in s o d a v w = memory s.entry.now o.entry.now d.entry.now a.entry.now v.entry.now w.entry.now
+
+abbrev pub opening_out : MutSlices → MutSlices → MutSlices → Slices → Slices → Slices → Memory
+opening_out s o d a v w = memory s.exit.now o.exit.now d.exit.now a.exit.now v.exit.now w.exit.now

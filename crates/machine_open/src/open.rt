@@ -1,6 +1,6 @@
 // open: place A, and the fee table where one is handed in, then the machine before its first step.
 ghost use Rattle.std.specs.Prelude.{◌≡◌, true, ◌≤◌, length, replicate};
-ghost use Rattle.machine.specs.Lent.{code_in, memory_in, memory_out};
+ghost use Rattle.machine.specs.Lent.{code_in, opening_in, opening_out};
 ghost use Rattle.machine.specs.FeeTable.{fee_table, unpriced, priced};
 ghost use Rattle.machine.specs.Open.{opened_stack};
 ghost use Rattle.machine_fees.specs.FeeView.{Priceable, fees_in};
@@ -82,8 +82,8 @@ fn checked(
 ) -> Moved
     requires { pricing ≡ true → Priceable prices.old }
     ensures { Opens (fees_in pricing (fee_table lowest.now highest.now fees.now)) revision digest (code_in opcodes arguments public secret digests)
-        (memory_in op_stack origins destinations addresses values output)
-        cells result (memory_out op_stack origins destinations addresses values output) }
+        (opening_in op_stack origins destinations addresses values output)
+        cells result (opening_out op_stack origins destinations addresses values output) }
 {
     let n = check_open(
         revision,
@@ -136,8 +136,8 @@ pub fn open(
     output: &[u64],
 ) -> Moved
     ensures { Opens unpriced revision digest (code_in opcodes arguments public secret digests)
-        (memory_in op_stack origins destinations addresses values output)
-        cells result (memory_out op_stack origins destinations addresses values output) }
+        (opening_in op_stack origins destinations addresses values output)
+        cells result (opening_out op_stack origins destinations addresses values output) }
 {
     let no_fees = [0u64; 1];
     let mut no_prices = [0u64; 1];
@@ -185,8 +185,8 @@ pub fn open_with_fees(
     fees: &[u64],
 ) -> Moved
     ensures { Opens (priced (fee_table lowest.now highest.now fees.now)) revision digest (code_in opcodes arguments public secret digests)
-        (memory_in op_stack origins destinations addresses values output)
-        cells result (memory_out op_stack origins destinations addresses values output) }
+        (opening_in op_stack origins destinations addresses values output)
+        cells result (opening_out op_stack origins destinations addresses values output) }
 {
     let mut prices = [0u64; 128];
     checked(
