@@ -1,14 +1,14 @@
 // Writes what the field's functions answer on edge values, a line each. The figures in the file `stdout`, which it must write, are Python's
 // (host/vectors/field_vectors.py).
 #![tactic(auto)]
+
 ghost use Rattle.std.specs.Prelude.{◌<◌};
 ghost use Rattle.field.specs.Base.{p};
 ghost use Rattle.field.specs.Extension.{WordsX};
 
 use field::extension::XFieldElement;
 use field::{base, extension};
-
-const OUT: i32 = 1;
+use std::io;
 
 // ---- words
 
@@ -40,63 +40,53 @@ fn number(i: u64) -> u64 {
     }
 }
 
-fn line1(name: &[u8], a: u64, r: u64) {
-    io::write_all(OUT, name);
-    io::print_decimal(OUT, a);
-    io::write_all(OUT, b" = ");
-    io::print_decimal(OUT, r);
-    io::write_all(OUT, b"\n");
+fn line1(rt: &impl Print, name: &[u8], a: u64, r: u64) -> io::Result<()> {
+    rt.write_all(name)?;
+    println!(rt; "{a} = {r}")
 }
 
-fn line2(name: &[u8], a: u64, b: u64, r: u64) {
-    io::write_all(OUT, name);
-    io::print_decimal(OUT, a);
-    io::write_all(OUT, b" ");
-    io::print_decimal(OUT, b);
-    io::write_all(OUT, b" = ");
-    io::print_decimal(OUT, r);
-    io::write_all(OUT, b"\n");
+fn line2(rt: &impl Print, name: &[u8], a: u64, b: u64, r: u64) -> io::Result<()> {
+    rt.write_all(name)?;
+    println!(rt; "{a} {b} = {r}")
 }
 
-fn of_word(a: u64)
+fn of_word(rt: &impl Print, a: u64) -> io::Result<()>
     requires { a < p }
 {
-    line1(b"neg ", a, base::neg(a));
-    line1(b"inverse ", a, base::inverse_or_zero(a));
+    line1(rt, b"neg ", a, base::neg(a))?;
+    line1(rt, b"inverse ", a, base::inverse_or_zero(a))
 }
 
-fn of_words(a: u64, b: u64)
+fn of_words(rt: &impl Print, a: u64, b: u64) -> io::Result<()>
     requires { (a < p) × (b < p) }
 {
-    line2(b"add ", a, b, base::add(a, b));
-    line2(b"sub ", a, b, base::sub(a, b));
-    line2(b"mul ", a, b, base::mul(a, b));
-    line2(b"pow ", a, b, base::mod_pow(a, b));
+    line2(rt, b"add ", a, b, base::add(a, b))?;
+    line2(rt, b"sub ", a, b, base::sub(a, b))?;
+    line2(rt, b"mul ", a, b, base::mul(a, b))?;
+    line2(rt, b"pow ", a, b, base::mod_pow(a, b))
 }
 
-fn of_numbers(a: u64, b: u64) {
-    line2(b"mul ", a, b, base::mul(a, b));
-    line2(b"reduce ", a, b, base::reduce(a, b));
+fn of_numbers(rt: &impl Print, a: u64, b: u64) -> io::Result<()> {
+    line2(rt, b"mul ", a, b, base::mul(a, b))?;
+    line2(rt, b"reduce ", a, b, base::reduce(a, b))
 }
 
 // One loop for the pairs, whose first turns take each word alone too.
-fn words() {
-    let mut i: u64 = 0;
-    while i < 64 {
+fn words(rt: &impl Print) -> io::Result<()> {
+    for i in 0..64 {
         if i < 8 {
-            of_word(word(i));
+            of_word(rt, word(i))?;
         }
-        of_words(word(i / 8), word(i % 8));
-        i += 1;
+        of_words(rt, word(i / 8), word(i % 8))?;
     }
+    Ok(())
 }
 
-fn numbers() {
-    let mut i: u64 = 0;
-    while i < 36 {
-        of_numbers(number(i / 6), number(i % 6));
-        i += 1;
+fn numbers(rt: &impl Print) -> io::Result<()> {
+    for i in 0..36 {
+        of_numbers(rt, number(i / 6), number(i % 6))?;
     }
+    Ok(())
 }
 
 // ---- extension words
@@ -144,67 +134,68 @@ fn element(i: u64) -> XFieldElement
     }
 }
 
-fn print(x: XFieldElement) {
-    io::write_all(OUT, b"[");
-    io::print_decimal(OUT, x.c0);
-    io::write_all(OUT, b" ");
-    io::print_decimal(OUT, x.c1);
-    io::write_all(OUT, b" ");
-    io::print_decimal(OUT, x.c2);
-    io::write_all(OUT, b"]");
+fn print(rt: &impl Print, x: XFieldElement) -> io::Result<()> {
+    let XFieldElement { c0, c1, c2 } = x;
+    print!(rt; "[{c0} {c1} {c2}]")
 }
 
-fn xline1(name: &[u8], x: XFieldElement, r: XFieldElement) {
-    io::write_all(OUT, name);
-    print(x);
-    io::write_all(OUT, b" = ");
-    print(r);
-    io::write_all(OUT, b"\n");
+fn xline1(rt: &impl Print, name: &[u8], x: XFieldElement, r: XFieldElement) -> io::Result<()> {
+    rt.write_all(name)?;
+    print(rt, x)?;
+    print!(rt; " = ")?;
+    print(rt, r)?;
+    println!(rt)
 }
 
-fn xline2(name: &[u8], x: XFieldElement, y: XFieldElement, r: XFieldElement) {
-    io::write_all(OUT, name);
-    print(x);
-    io::write_all(OUT, b" ");
-    print(y);
-    io::write_all(OUT, b" = ");
-    print(r);
-    io::write_all(OUT, b"\n");
+fn xline2(
+    rt: &impl Print,
+    name: &[u8],
+    x: XFieldElement,
+    y: XFieldElement,
+    r: XFieldElement,
+) -> io::Result<()> {
+    rt.write_all(name)?;
+    print(rt, x)?;
+    print!(rt; " ")?;
+    print(rt, y)?;
+    print!(rt; " = ")?;
+    print(rt, r)?;
+    println!(rt)
 }
 
-fn of_element(x: XFieldElement)
+fn of_element(rt: &impl Print, x: XFieldElement) -> io::Result<()>
     requires { WordsX x }
 {
-    xline1(b"neg ", x, extension::neg(x));
-    xline1(b"inverse ", x, extension::inverse_or_zero(x));
+    xline1(rt, b"neg ", x, extension::neg(x))?;
+    xline1(rt, b"inverse ", x, extension::inverse_or_zero(x))?;
     xline1(
+        rt,
         b"scale 18446744069414584319 ",
         x,
         extension::scale(18446744069414584319, x),
-    );
+    )
 }
 
-fn of_elements(x: XFieldElement, y: XFieldElement)
+fn of_elements(rt: &impl Print, x: XFieldElement, y: XFieldElement) -> io::Result<()>
     requires { (WordsX x) × (WordsX y) }
 {
-    xline2(b"add ", x, y, extension::add(x, y));
-    xline2(b"sub ", x, y, extension::sub(x, y));
-    xline2(b"mul ", x, y, extension::mul(x, y));
+    xline2(rt, b"add ", x, y, extension::add(x, y))?;
+    xline2(rt, b"sub ", x, y, extension::sub(x, y))?;
+    xline2(rt, b"mul ", x, y, extension::mul(x, y))
 }
 
-fn elements() {
-    let mut i: u64 = 0;
-    while i < 49 {
+fn elements(rt: &impl Print) -> io::Result<()> {
+    for i in 0..49 {
         if i < 7 {
-            of_element(element(i));
+            of_element(rt, element(i))?;
         }
-        of_elements(element(i / 7), element(i % 7));
-        i += 1;
+        of_elements(rt, element(i / 7), element(i % 7))?;
     }
+    Ok(())
 }
 
-fn main() {
-    words();
-    numbers();
-    elements();
+fn main(rt: HostRuntime) -> io::Result<()> {
+    words(&rt)?;
+    numbers(&rt)?;
+    elements(&rt)
 }
