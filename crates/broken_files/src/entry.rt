@@ -1,7 +1,9 @@
 // An entry of the list: what it says of a file, and its name.
 ghost use Rattle.std.specs.Prelude.{◌<◌, ◌≤◌};
 
-use libc::STDIN_FILENO;
+use reading::read_full;
+use std::io;
+use std::io::Read;
 
 // What reading the file must give. The sums are of the slices, in read_job's order.
 #[derive(Clone, Copy)]
@@ -34,42 +36,56 @@ fn half(a: u8, b: u8, c: u8, d: u8) -> u64
 }
 
 // The next number of the list; 0 where the list has ended.
-pub fn next() -> u64 {
+pub fn next(list: &mut impl Read) -> io::Result<u64> {
     let mut b = [0u8; 8];
-    io::read_full(STDIN_FILENO, &mut b);
+    read_full(list, &mut b)?;
     let low = half(b[0], b[1], b[2], b[3]);
     let high = half(b[4], b[5], b[6], b[7]);
-    low + 4294967296 * high
+    Ok(low + 4294967296 * high)
 }
 
-fn five() -> [u64; 5] {
-    [next(), next(), next(), next(), next()]
+fn five(list: &mut impl Read) -> io::Result<[u64; 5]> {
+    Ok([
+        next(list)?,
+        next(list)?,
+        next(list)?,
+        next(list)?,
+        next(list)?,
+    ])
 }
 
-fn seven() -> [u64; 7] {
-    [next(), next(), next(), next(), next(), next(), next()]
+fn seven(list: &mut impl Read) -> io::Result<[u64; 7]> {
+    Ok([
+        next(list)?,
+        next(list)?,
+        next(list)?,
+        next(list)?,
+        next(list)?,
+        next(list)?,
+        next(list)?,
+    ])
 }
 
-pub fn read_wanted() -> Wanted {
-    Wanted {
-        length: next(),
-        number: next(),
-        digest: five(),
-        slots: next(),
-        publics: next(),
-        secrets: next(),
-        digests: next(),
-        cells: next(),
-        budget: next(),
-        sums: seven(),
-    }
+pub fn read_wanted(list: &mut impl Read) -> io::Result<Wanted> {
+    Ok(Wanted {
+        length: next(list)?,
+        number: next(list)?,
+        digest: five(list)?,
+        slots: next(list)?,
+        publics: next(list)?,
+        secrets: next(list)?,
+        digests: next(list)?,
+        cells: next(list)?,
+        budget: next(list)?,
+        sums: seven(list)?,
+    })
 }
 
 // Its name, with spaces behind it.
-pub fn read_name() -> [u8; 48] {
+pub fn read_name(list: &mut impl Read) -> io::Result<[u8; 48]> {
     let mut b = [0u8; 48];
-    io::read_full(STDIN_FILENO, &mut b);
-    b
+    read_full(list, &mut b)?;
+    Ok(b)
 }
 
 // The lesser of two.

@@ -1,22 +1,31 @@
 // Reads the job files of a list on its standard input, and compares what comes out with what the list says of each.
 // host/vectors/broken_files.py makes the list from document 01, and says there what its bytes are.
 #![tactic(auto)]
+
 mod entry;
 mod report;
 mod trial;
 
-use libc::{STDIN_FILENO, STDOUT_FILENO};
+use reading::read_full;
+use std::io;
+use std::io::Read;
 use trial::tried;
 
 // A list that ends too early, or has a longer file than there is room for, differs.
-fn right(i: u64, space: &mut [u8]) -> bool {
-    let wanted = entry::read_wanted();
-    let name = entry::read_name();
+fn right(rt: &impl Print, list: &mut impl Read, i: u64, space: &mut [u8]) -> io::Result<bool> {
+    let wanted = entry::read_wanted(list)?;
+    let name = entry::read_name(list)?;
     let most = entry::least(wanted.length, space.len());
-    let n = io::read_full(STDIN_FILENO, &mut space[..most]);
-    let whole = report::told(i, &name, b"length of the file", wanted.length == n as u64);
-    let same = tried(i, &name, wanted, &space[..most]);
-    report::both(whole, same)
+    let n = read_full(list, &mut space[..most])?;
+    let whole = report::told(
+        rt,
+        i,
+        &name,
+        b"length of the file",
+        wanted.length == n as u64,
+    )?;
+    let same = tried(rt, i, &name, wanted, &space[..most])?;
+    Ok(report::both(whole, same))
 }
 
 fn more(differ: u64, same: bool) -> u64 {
@@ -27,17 +36,13 @@ fn more(differ: u64, same: bool) -> u64 {
     }
 }
 
-fn main() {
+fn main(rt: HostRuntime) -> io::Result<()> {
+    let mut list = rt.stdin();
     let mut space = [0u8; 65538];
-    let count = entry::next();
+    let count = entry::next(&mut list)?;
     let mut differ: u64 = 0;
-    let mut i: u64 = 0;
-    while i < count {
-        differ = more(differ, right(i, &mut space));
-        i += 1;
+    for i in 0..count {
+        differ = more(differ, right(&rt, &mut list, i, &mut space)?);
     }
-    io::print_decimal(STDOUT_FILENO, count);
-    io::write_all(STDOUT_FILENO, b" entries, ");
-    io::print_decimal(STDOUT_FILENO, differ);
-    io::write_all(STDOUT_FILENO, b" differ\n");
+    println!(rt; "{count} entries, {differ} differ")
 }

@@ -2,6 +2,7 @@
 use crate::entry::Wanted;
 use crate::report::{both, told};
 use job::job_file::{JobFile, read_job};
+use std::io;
 
 // What the slices hold before the file is read. Their words behind the job's, and all of them where the file is broken, stay so.
 const FILL: u64 = 7777;
@@ -33,36 +34,64 @@ fn same_digest(a: &[u64; 5], b: &[u64; 5]) -> bool {
 }
 
 // Whether a count is the one that is wanted.
-fn counted(i: u64, name: &[u8; 48], what: &[u8], n: usize, wanted: u64) -> bool {
-    told(i, name, what, n as u64 == wanted)
+fn counted(
+    rt: &impl Print,
+    i: u64,
+    name: &[u8; 48],
+    what: &[u8],
+    n: usize,
+    wanted: u64,
+) -> io::Result<bool> {
+    told(rt, i, name, what, n as u64 == wanted)
 }
 
 // The number, the digest and the budget.
-fn said_right(i: u64, name: &[u8; 48], w: Wanted, j: JobFile) -> bool {
+fn said_right(rt: &impl Print, i: u64, name: &[u8; 48], w: Wanted, j: JobFile) -> io::Result<bool> {
     let found = j.digest;
     let given = w.digest;
     let digest = same_digest(&found, &given);
-    let a = told(i, name, b"number", j.number == w.number);
-    let b = told(i, name, b"digest", digest);
-    let c = told(i, name, b"budget", j.budget == w.budget);
-    both(a, both(b, c))
+    let a = told(rt, i, name, b"number", j.number == w.number)?;
+    let b = told(rt, i, name, b"digest", digest)?;
+    let c = told(rt, i, name, b"budget", j.budget == w.budget)?;
+    Ok(both(a, both(b, c)))
 }
 
-fn counts_right(i: u64, name: &[u8; 48], w: Wanted, j: JobFile) -> bool {
-    let a = counted(i, name, b"how many slots", j.slots, w.slots);
-    let b = counted(i, name, b"how many public words", j.publics, w.publics);
-    let c = counted(i, name, b"how many secret words", j.secrets, w.secrets);
-    let d = counted(i, name, b"how many words of digests", j.digests, w.digests);
-    let e = counted(i, name, b"how many cells", j.cells, w.cells);
-    both(both(a, both(b, c)), both(d, e))
+fn counts_right(
+    rt: &impl Print,
+    i: u64,
+    name: &[u8; 48],
+    w: Wanted,
+    j: JobFile,
+) -> io::Result<bool> {
+    let a = counted(rt, i, name, b"how many slots", j.slots, w.slots)?;
+    let b = counted(rt, i, name, b"how many public words", j.publics, w.publics)?;
+    let c = counted(rt, i, name, b"how many secret words", j.secrets, w.secrets)?;
+    let d = counted(
+        rt,
+        i,
+        name,
+        b"how many words of digests",
+        j.digests,
+        w.digests,
+    )?;
+    let e = counted(rt, i, name, b"how many cells", j.cells, w.cells)?;
+    Ok(both(both(a, both(b, c)), both(d, e)))
 }
 
 // Whether a slice has the sum that is wanted.
-fn summed(i: u64, name: &[u8; 48], what: &[u8], words: &[u64], wanted: u64) -> bool {
-    told(i, name, what, sum(words) == wanted)
+fn summed(
+    rt: &impl Print,
+    i: u64,
+    name: &[u8; 48],
+    what: &[u8],
+    words: &[u64],
+    wanted: u64,
+) -> io::Result<bool> {
+    told(rt, i, name, what, sum(words) == wanted)
 }
 
 fn words_right(
+    rt: &impl Print,
     i: u64,
     name: &[u8; 48],
     sums: [u64; 7],
@@ -73,18 +102,18 @@ fn words_right(
     digests: &[u64],
     addresses: &[u64],
     values: &[u64],
-) -> bool {
-    let a = summed(i, name, b"opcodes", opcodes, sums[0]);
-    let b = summed(i, name, b"arguments", arguments, sums[1]);
-    let c = summed(i, name, b"public words", public, sums[2]);
-    let d = summed(i, name, b"secret words", secret, sums[3]);
-    let e = summed(i, name, b"digests", digests, sums[4]);
-    let f = summed(i, name, b"addresses", addresses, sums[5]);
-    let g = summed(i, name, b"values", values, sums[6]);
-    both(both(a, both(b, c)), both(both(d, e), both(f, g)))
+) -> io::Result<bool> {
+    let a = summed(rt, i, name, b"opcodes", opcodes, sums[0])?;
+    let b = summed(rt, i, name, b"arguments", arguments, sums[1])?;
+    let c = summed(rt, i, name, b"public words", public, sums[2])?;
+    let d = summed(rt, i, name, b"secret words", secret, sums[3])?;
+    let e = summed(rt, i, name, b"digests", digests, sums[4])?;
+    let f = summed(rt, i, name, b"addresses", addresses, sums[5])?;
+    let g = summed(rt, i, name, b"values", values, sums[6])?;
+    Ok(both(both(a, both(b, c)), both(both(d, e), both(f, g))))
 }
 
-pub fn tried(i: u64, name: &[u8; 48], w: Wanted, file: &[u8]) -> bool {
+pub fn tried(rt: &impl Print, i: u64, name: &[u8; 48], w: Wanted, file: &[u8]) -> io::Result<bool> {
     let mut opcodes = [FILL; 1024];
     let mut arguments = [FILL; 1024];
     let mut public = [FILL; 5461];
@@ -102,11 +131,11 @@ pub fn tried(i: u64, name: &[u8; 48], w: Wanted, file: &[u8]) -> bool {
         &mut addresses,
         &mut values,
     );
-    let said = said_right(i, name, w, j);
-    let counts = counts_right(i, name, w, j);
+    let said = said_right(rt, i, name, w, j)?;
+    let counts = counts_right(rt, i, name, w, j)?;
     let sums = w.sums;
     let words = words_right(
-        i, name, sums, &opcodes, &arguments, &public, &secret, &digests, &addresses, &values,
-    );
-    both(said, both(counts, words))
+        rt, i, name, sums, &opcodes, &arguments, &public, &secret, &digests, &addresses, &values,
+    )?;
+    Ok(both(said, both(counts, words)))
 }

@@ -1,6 +1,7 @@
 // Takes the steps of two lists on its standard input, and compares what comes out with the answers that stand in them: the
 // original Rust's, and for damaged machines the model's. host/compare/sample writes the lists, FORMAT.md there has the bytes.
 #![tactic(auto)]
+
 ghost use Rattle.std.specs.Prelude.{◌<◌};
 
 mod answer;
@@ -10,7 +11,9 @@ mod trial;
 mod words;
 
 use entry::{BESIDES, Entry, HEAD, Places};
-use libc::{STDIN_FILENO, STDOUT_FILENO};
+use reading::read_full;
+use std::io;
+use std::io::Read;
 
 // An entry's number, and whether all came out as it says.
 #[derive(Clone, Copy)]
@@ -19,12 +22,12 @@ struct Seen {
     same: bool,
 }
 
-// The next n bytes of the list, and zeros.
-fn read(n: usize) -> [u8; 2048] {
+// The next n bytes of the lists, and zeros.
+fn read(lists: &mut impl Read, n: usize) -> io::Result<[u8; 2048]> {
     let mut b = [0u8; 2048];
     let most = words::least(n, 2048);
-    io::read_full(STDIN_FILENO, &mut b[..most]);
-    b
+    read_full(lists, &mut b[..most])?;
+    Ok(b)
 }
 
 // The first four bytes as a number.
@@ -42,7 +45,7 @@ fn word_count(p: Places, full: bool) -> usize {
     if full { words::plus(end, BESIDES) } else { end }
 }
 
-fn tried(index: u64, full: bool, b: &[u8; 2048], len: usize) -> Seen {
+fn tried(rt: &impl Print, index: u64, full: bool, b: &[u8; 2048], len: usize) -> io::Result<Seen> {
     let p = entry::places_of(b);
     let d = words::decode(b, HEAD, word_count(p, full));
     let all = d.words;
@@ -53,12 +56,12 @@ fn tried(index: u64, full: bool, b: &[u8; 2048], len: usize) -> Seen {
         places: p,
         calls: d.behind,
     };
-    let whole = report::told(index, b"length", end == len);
-    let same = trial::right(e, b, &all);
-    Seen {
+    let whole = report::told(rt, index, b"length", end == len)?;
+    let same = trial::right(rt, e, b, &all)?;
+    Ok(Seen {
         number: words::word(&all, p.number),
         same: words::both(whole, same),
-    }
+    })
 }
 
 fn more(differ: u64, same: bool) -> u64 {
@@ -78,43 +81,34 @@ fn note(tally: &mut [u64; 64], number: u64) {
 }
 
 // How many entries there are of each number.
-fn print(tally: &[u64; 64]) {
-    let mut n: usize = 0;
-    while n < 64 {
-        if 0 < tally[n] {
-            io::write_all(STDOUT_FILENO, b"number ");
-            io::print_decimal(STDOUT_FILENO, n as u64);
-            io::write_all(STDOUT_FILENO, b": ");
-            io::print_decimal(STDOUT_FILENO, tally[n]);
-            io::write_all(STDOUT_FILENO, b"\n");
+fn print(rt: &impl Print, tally: &[u64; 64]) -> io::Result<()> {
+    for (n, entries) in tally.iter().enumerate() {
+        if 0 < *entries {
+            println!(rt; "number {n}: {entries}")?;
         }
-        n += 1;
     }
+    Ok(())
 }
 
-fn list(full: bool) {
-    let count = little(&read(4));
+fn list(rt: &impl Print, lists: &mut impl Read, full: bool) -> io::Result<()> {
+    let count = little(&read(lists, 4)?);
     let mut tally = [0u64; 64];
     let mut differ: u64 = 0;
-    let mut i: u64 = 0;
-    while i < count {
-        let len = little(&read(2)) as usize;
-        let b = read(len);
-        let seen = tried(i, full, &b, len);
+    for i in 0..count {
+        let len = little(&read(lists, 2)?) as usize;
+        let b = read(lists, len)?;
+        let seen = tried(rt, i, full, &b, len)?;
         note(&mut tally, seen.number);
         differ = more(differ, seen.same);
-        i += 1;
     }
-    print(&tally);
-    io::print_decimal(STDOUT_FILENO, count);
-    io::write_all(STDOUT_FILENO, b" entries, ");
-    io::print_decimal(STDOUT_FILENO, differ);
-    io::write_all(STDOUT_FILENO, b" differ\n");
+    print(rt, &tally)?;
+    println!(rt; "{count} entries, {differ} differ")
 }
 
-fn main() {
-    io::write_all(STDOUT_FILENO, b"single steps\n");
-    list(false);
-    io::write_all(STDOUT_FILENO, b"damaged machines\n");
-    list(true);
+fn main(rt: HostRuntime) -> io::Result<()> {
+    let mut lists = rt.stdin();
+    println!(rt; "single steps")?;
+    list(&rt, &mut lists, false)?;
+    println!(rt; "damaged machines")?;
+    list(&rt, &mut lists, true)
 }

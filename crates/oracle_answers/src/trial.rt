@@ -6,8 +6,10 @@ use machine::state::VMState;
 use machine_open::helper_variables::helper_variables;
 use machine_perform::answer::Stepped;
 use machine_vm::step::step;
+use std::io;
 
 fn helpers_right(
+    rt: &impl Print,
     e: Entry,
     words: &[u64; 512],
     state: VMState,
@@ -22,7 +24,7 @@ fn helpers_right(
     addresses: &[u64],
     values: &[u64],
     output: &[u64],
-) -> bool {
+) -> io::Result<bool> {
     let helped = helper_variables(
         state,
         opcodes,
@@ -37,11 +39,12 @@ fn helpers_right(
         values,
         output,
     );
-    helped_right(e, words, helped)
+    helped_right(rt, e, words, helped)
 }
 
 // What the step answers, and what it leaves.
 fn step_right(
+    rt: &impl Print,
     e: Entry,
     b: &[u8; 2048],
     words: &[u64; 512],
@@ -53,12 +56,13 @@ fn step_right(
     values: &[u64],
     output: &[u64],
     calls: &[u8; 1024],
-) -> bool {
+) -> io::Result<bool> {
     let answer = stepped.answer;
     let state = stepped.state;
-    let told = answer_right(e, words, answer);
-    let registers = state_right(e, b, words, state);
+    let told = answer_right(rt, e, words, answer)?;
+    let registers = state_right(rt, e, b, words, state)?;
     let memory = memory_right(
+        rt,
         e,
         b,
         words,
@@ -68,13 +72,14 @@ fn step_right(
         addresses,
         values,
         output,
-    );
-    let records = calls_right(e, b, stepped.bytes, calls);
-    both(both(told, registers), both(memory, records))
+    )?;
+    let records = calls_right(rt, e, b, stepped.bytes, calls)?;
+    Ok(both(both(told, registers), both(memory, records)))
 }
 
 // With the whole machine lent: the helper variables, then the step.
 fn of_machine(
+    rt: &impl Print,
     e: Entry,
     b: &[u8; 2048],
     words: &[u64; 512],
@@ -89,9 +94,10 @@ fn of_machine(
     addresses: &mut [u64],
     values: &mut [u64],
     output: &mut [u64],
-) -> bool {
+) -> io::Result<bool> {
     let before = state_before(e, b, words);
     let helpers = helpers_right(
+        rt,
         e,
         words,
         before,
@@ -106,7 +112,7 @@ fn of_machine(
         addresses,
         values,
         output,
-    );
+    )?;
     let mut buffer = [0u8; 1024];
     let most = room(e, words);
     let stepped = step(
@@ -125,6 +131,7 @@ fn of_machine(
         &mut buffer[..most],
     );
     let moved = step_right(
+        rt,
         e,
         b,
         words,
@@ -136,12 +143,13 @@ fn of_machine(
         values,
         output,
         &buffer,
-    );
-    both(helpers, moved)
+    )?;
+    Ok(both(helpers, moved))
 }
 
 // With the code lent: the memory is made.
 fn of_code(
+    rt: &impl Print,
     e: Entry,
     b: &[u8; 2048],
     words: &[u64; 512],
@@ -150,7 +158,7 @@ fn of_code(
     public: &[u64],
     secret: &[u64],
     digests: &[u64],
-) -> bool {
+) -> io::Result<bool> {
     let mut op_stack = slice(e, b, words, 5);
     let mut origins = slice(e, b, words, 6);
     let mut destinations = slice(e, b, words, 7);
@@ -164,6 +172,7 @@ fn of_code(
     let held = lent(e, b, words, 9);
     let put = lent(e, b, words, 10);
     of_machine(
+        rt,
         e,
         b,
         words,
@@ -182,7 +191,7 @@ fn of_code(
 }
 
 // Whether all is as the entry has it.
-pub fn right(e: Entry, b: &[u8; 2048], words: &[u64; 512]) -> bool {
+pub fn right(rt: &impl Print, e: Entry, b: &[u8; 2048], words: &[u64; 512]) -> io::Result<bool> {
     let opcodes = slice(e, b, words, 0);
     let arguments = slice(e, b, words, 1);
     let public = slice(e, b, words, 2);
@@ -194,6 +203,7 @@ pub fn right(e: Entry, b: &[u8; 2048], words: &[u64; 512]) -> bool {
     let secrets = lent(e, b, words, 3);
     let fives = lent(e, b, words, 4);
     of_code(
+        rt,
         e,
         b,
         words,
