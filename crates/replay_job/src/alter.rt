@@ -4,6 +4,7 @@ ghost use Rattle.std.specs.Prelude.{◌+◌, ◌≤◌, length};
 use crate::memory_job::STEPS;
 use crate::print;
 use replay_scan::record::head_at;
+use std::io;
 
 // The eight bytes at a place.
 fn get(log: &[u8], at: usize) -> [u8; 8]
@@ -38,25 +39,32 @@ fn another(bytes: &[u8; 8]) -> [u8; 8] {
 }
 
 // Replays with these bytes at a place.
-fn replay_with(log: &mut [u8], at: usize, what: &[u8], bytes: &[u8; 8])
+fn replay_with(
+    rt: &impl Print,
+    log: &mut [u8],
+    at: usize,
+    what: &[u8],
+    bytes: &[u8; 8],
+) -> io::Result<()>
     requires { at + 8 ≤ length log.old }
 {
     put(log, at, bytes);
-    print::number(b"read at byte ", at as u64);
-    print::text(what);
-    print::replay_to(log, STEPS);
+    print::number(rt, b"read at byte ", at as u64)?;
+    print::text(rt, what)?;
+    print::replay_to(rt, log, STEPS)
 }
 
 // The read whose value stands at a place; it is put back.
-fn alter_read(log: &mut [u8], at: usize)
+fn alter_read(rt: &impl Print, log: &mut [u8], at: usize) -> io::Result<()>
     requires { at + 8 ≤ length log.old }
 {
     let old = get(log, at);
     let word = another(&old);
     let none = [255u8; 8];
-    replay_with(log, at, b" another word", &word);
-    replay_with(log, at, b" no word", &none);
+    replay_with(rt, log, at, b" another word", &word)?;
+    replay_with(rt, log, at, b" no word", &none)?;
     put(log, at, &old);
+    Ok(())
 }
 
 // How far into its record the direction stands: kind 4 is the op stack's, 5 RAM's.
@@ -74,26 +82,34 @@ fn value_of(kind: u64) -> usize
 }
 
 // The record at a place, if it is a read. Only these two kinds are of this size.
-fn alter_record(log: &mut [u8], at: usize, kind: u64, size: usize)
+fn alter_record(
+    rt: &impl Print,
+    log: &mut [u8],
+    at: usize,
+    kind: u64,
+    size: usize,
+) -> io::Result<()>
     requires { at + size + 2 ≤ length log.old }
 {
     if size != 23 {
-        return;
+        return Ok(());
     }
     let direction = at + direction_of(kind);
     if log[direction] == 0 {
-        alter_read(log, at + value_of(kind));
+        alter_read(rt, log, at + value_of(kind))?;
     }
+    Ok(())
 }
 
-pub fn alter_reads(log: &mut [u8]) {
+pub fn alter_reads(rt: &impl Print, log: &mut [u8]) -> io::Result<()> {
     let mut at = 0;
     while at < log.len() {
         let h = head_at(log, 1, at);
         if h.state != 2 {
-            return;
+            return Ok(());
         }
-        alter_record(log, at, h.kind, h.size);
+        alter_record(rt, log, at, h.kind, h.size)?;
         at = at + h.size + 2;
     }
+    Ok(())
 }

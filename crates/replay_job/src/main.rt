@@ -1,6 +1,7 @@
 // Runs the job of jobs/memory.txt, whose log has reads of the op stack and of RAM, and replays its log: up to each clock, and then with each
 // read altered, to another word and to a number that is no word. A line each says what replay answers and what is in the lent slices then.
 #![tactic(auto)]
+
 mod alter;
 mod memory_job;
 mod print;
@@ -8,25 +9,25 @@ mod print;
 use choices::numbers::least;
 use machine_open::open::open;
 use machine_vm::trace::trace_execution;
+use std::io;
 
 // Up to each clock, from before the first step on.
-fn replay_clocks(log: &[u8]) {
-    let mut clock = 0;
-    while clock <= memory_job::STEPS {
-        print::number(b"clock ", clock);
-        print::replay_to(log, clock);
-        clock += 1;
+fn replay_clocks(rt: &impl Print, log: &[u8]) -> io::Result<()> {
+    for clock in 0..=memory_job::STEPS {
+        print::number(rt, b"clock ", clock)?;
+        print::replay_to(rt, log, clock)?;
     }
+    Ok(())
 }
 
 // The log is the first `bytes` of what is lent.
-fn replay_all(lent: &mut [u8], bytes: usize) {
+fn replay_all(rt: &impl Print, lent: &mut [u8], bytes: usize) -> io::Result<()> {
     let most = least(bytes, lent.len());
-    replay_clocks(&lent[..most]);
-    alter::alter_reads(&mut lent[..most]);
+    replay_clocks(rt, &lent[..most])?;
+    alter::alter_reads(rt, &mut lent[..most])
 }
 
-fn main() {
+fn main(rt: HostRuntime) -> io::Result<()> {
     let opcodes = memory_job::OPCODES;
     let arguments = memory_job::ARGUMENTS;
     let public = memory_job::PUBLIC;
@@ -71,8 +72,8 @@ fn main() {
         &mut output,
         &mut log,
     );
-    print::number(b"steps ", traced.count);
-    print::number(b" bytes ", traced.bytes as u64);
-    print::text(b"\n");
-    replay_all(&mut log, traced.bytes);
+    print::number(&rt, b"steps ", traced.count)?;
+    print::number(&rt, b" bytes ", traced.bytes as u64)?;
+    print::text(&rt, b"\n")?;
+    replay_all(&rt, &mut log, traced.bytes)
 }

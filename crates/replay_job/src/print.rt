@@ -1,29 +1,27 @@
 // Lines for the reader.
 use crate::memory_job;
 use replay_calls::call::replay;
+use std::io;
 
-const OUT: i32 = 1;
-
-pub fn text(name: &[u8]) {
-    io::write_all(OUT, name);
+pub fn text(rt: &impl Print, name: &[u8]) -> io::Result<()> {
+    rt.write_all(name)
 }
 
-pub fn number(name: &[u8], n: u64) {
-    text(name);
-    io::print_decimal(OUT, n);
+pub fn number(rt: &impl Print, name: &[u8], n: u64) -> io::Result<()> {
+    text(rt, name)?;
+    print!(rt; "{n}")
 }
 
-fn words(name: &[u8], words: &[u64; 8]) {
-    text(name);
-    let mut i = 0;
-    while i < 8 {
-        number(b" ", words[i]);
-        i += 1;
+fn words(rt: &impl Print, name: &[u8], words: &[u64; 8]) -> io::Result<()> {
+    text(rt, name)?;
+    for word in words {
+        number(rt, b" ", *word)?;
     }
+    Ok(())
 }
 
 // Replays from the opening's cells up to a clock. The stack's words are those below its top sixteen.
-pub fn replay_to(log: &[u8], clock: u64) {
+pub fn replay_to(rt: &impl Print, log: &[u8], clock: u64) -> io::Result<()> {
     let mut addresses = memory_job::ADDRESSES;
     let mut values = memory_job::VALUES;
     let mut stack = [0u64; 8];
@@ -36,11 +34,11 @@ pub fn replay_to(log: &[u8], clock: u64) {
         &mut stack,
         clock,
     );
-    number(b": number ", r.number);
-    number(b" depth ", r.depth as u64);
-    number(b" cells ", r.cells as u64);
-    words(b" addresses", &addresses);
-    words(b" values", &values);
-    words(b" stack", &stack);
-    text(b"\n");
+    number(rt, b": number ", r.number)?;
+    number(rt, b" depth ", r.depth as u64)?;
+    number(rt, b" cells ", r.cells as u64)?;
+    words(rt, b" addresses", &addresses)?;
+    words(rt, b" values", &values)?;
+    words(rt, b" stack", &stack)?;
+    text(rt, b"\n")
 }
