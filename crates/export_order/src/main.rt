@@ -4,6 +4,7 @@
 // Three exchanges give the same function, so that nothing can show them: public and secret in triton_open, and origins and destinations in
 // triton_open and in triton_helper_variables, with fees too. triton_step_registers is lent a struct: host/triton/tests/registers.rs tests its order.
 #![tactic(auto)]
+
 mod print;
 
 use exports::calls::{
@@ -12,6 +13,7 @@ use exports::calls::{
     triton_trace_execution, triton_trace_execution_with_fees, triton_trace_rows,
     triton_trace_rows_with_fees,
 };
+use std::io;
 
 //  0: read_io 3; divine 2; push 20; write_mem 2; pop 1; call 14
 // 12: call 0
@@ -104,7 +106,7 @@ fn open() -> Lent {
 }
 
 // From the opening's cells up to clock 4: write_mem's records are read, and the next one, of pop, ends the reading.
-fn replay(log: &[u8]) {
+fn replay(rt: &impl Print, log: &[u8]) -> io::Result<()> {
     let mut rebuilt = [0u64; 3];
     let mut addresses = ADDRESSES;
     let mut values = VALUES;
@@ -119,14 +121,14 @@ fn replay(log: &[u8]) {
         &mut values,
         &mut words,
     );
-    print::answered(b"replay", number, &rebuilt);
-    print::words(b"addresses", &addresses);
-    print::words(b"values", &values);
-    print::words(b"words", &words);
+    print::answered(rt, b"replay", number, &rebuilt)?;
+    print::words(rt, b"addresses", &addresses)?;
+    print::words(rt, b"values", &values)?;
+    print::words(rt, b"words", &words)
 }
 
 // Six steps. The last one is call, here and in the two calls below, so that each leaves an entry in the jump stack.
-fn trace_execution(lent: Lent) -> Lent {
+fn trace_execution(rt: &impl Print, lent: Lent) -> io::Result<Lent> {
     let opcodes = OPCODES;
     let arguments = ARGUMENTS;
     let public = PUBLIC;
@@ -158,8 +160,8 @@ fn trace_execution(lent: Lent) -> Lent {
         &mut output,
         &mut log,
     );
-    replay(&log);
-    Lent {
+    replay(rt, &log)?;
+    Ok(Lent {
         number: number,
         registers: registers,
         answer: answer,
@@ -169,11 +171,11 @@ fn trace_execution(lent: Lent) -> Lent {
         addresses: addresses,
         values: values,
         output: output,
-    }
+    })
 }
 
 // Nine steps, the sixth and the last one call. Prints the row of the seventh, merkle_step.
-fn trace_rows(lent: Lent) -> Lent {
+fn trace_rows(rt: &impl Print, lent: Lent) -> io::Result<Lent> {
     let opcodes = OPCODES;
     let arguments = ARGUMENTS;
     let public = PUBLIC;
@@ -207,8 +209,8 @@ fn trace_rows(lent: Lent) -> Lent {
         &mut log,
         &mut table,
     );
-    print::words(b"row", &table[222..259]);
-    Lent {
+    print::words(rt, b"row", &table[222..259])?;
+    Ok(Lent {
         number: number,
         registers: registers,
         answer: answer,
@@ -218,11 +220,11 @@ fn trace_rows(lent: Lent) -> Lent {
         addresses: addresses,
         values: values,
         output: output,
-    }
+    })
 }
 
 // The helper variables of merkle_step.
-fn helper_variables(lent: Lent) {
+fn helper_variables(rt: &impl Print, lent: Lent) -> io::Result<()> {
     let opcodes = OPCODES;
     let arguments = ARGUMENTS;
     let public = PUBLIC;
@@ -251,11 +253,11 @@ fn helper_variables(lent: Lent) {
         &values,
         &output,
     );
-    print::answered(b"helper_variables", number, &helpers);
+    print::answered(rt, b"helper_variables", number, &helpers)
 }
 
 // The row of merkle_step.
-fn processor_row(lent: Lent) {
+fn processor_row(rt: &impl Print, lent: Lent) -> io::Result<()> {
     let opcodes = OPCODES;
     let arguments = ARGUMENTS;
     let public = PUBLIC;
@@ -284,7 +286,7 @@ fn processor_row(lent: Lent) {
         &values,
         &output,
     );
-    print::answered(b"processor_row", number, &row);
+    print::answered(rt, b"processor_row", number, &row)
 }
 
 // Three steps.
@@ -378,7 +380,7 @@ fn step(lent: Lent) -> Lent {
 
 // ---- with a fee table: the answer of all but open has eight words
 
-fn open_with_fees() -> Lent {
+fn open_with_fees(rt: &impl Print) -> io::Result<Lent> {
     let opcodes = OPCODES;
     let arguments = ARGUMENTS;
     let public = PUBLIC;
@@ -418,8 +420,8 @@ fn open_with_fees() -> Lent {
         &highest,
         &fees,
     );
-    print::answered(b"open_with_fees", number, &answer);
-    Lent {
+    print::answered(rt, b"open_with_fees", number, &answer)?;
+    Ok(Lent {
         number: number,
         registers: registers,
         answer: answer,
@@ -429,10 +431,10 @@ fn open_with_fees() -> Lent {
         addresses: addresses,
         values: values,
         output: output,
-    }
+    })
 }
 
-fn trace_execution_with_fees(lent: Lent) -> Lent {
+fn trace_execution_with_fees(rt: &impl Print, lent: Lent) -> io::Result<Lent> {
     let opcodes = OPCODES;
     let arguments = ARGUMENTS;
     let public = PUBLIC;
@@ -471,8 +473,8 @@ fn trace_execution_with_fees(lent: Lent) -> Lent {
         &highest,
         &fees,
     );
-    print::answered(b"trace_execution_with_fees", number, &answer);
-    Lent {
+    print::answered(rt, b"trace_execution_with_fees", number, &answer)?;
+    Ok(Lent {
         number: number,
         registers: registers,
         answer: before,
@@ -482,10 +484,10 @@ fn trace_execution_with_fees(lent: Lent) -> Lent {
         addresses: addresses,
         values: values,
         output: output,
-    }
+    })
 }
 
-fn trace_rows_with_fees(lent: Lent) -> Lent {
+fn trace_rows_with_fees(rt: &impl Print, lent: Lent) -> io::Result<Lent> {
     let opcodes = OPCODES;
     let arguments = ARGUMENTS;
     let public = PUBLIC;
@@ -526,8 +528,8 @@ fn trace_rows_with_fees(lent: Lent) -> Lent {
         &highest,
         &fees,
     );
-    print::answered(b"trace_rows_with_fees", number, &answer);
-    Lent {
+    print::answered(rt, b"trace_rows_with_fees", number, &answer)?;
+    Ok(Lent {
         number: number,
         registers: registers,
         answer: before,
@@ -537,10 +539,10 @@ fn trace_rows_with_fees(lent: Lent) -> Lent {
         addresses: addresses,
         values: values,
         output: output,
-    }
+    })
 }
 
-fn run_with_fees(lent: Lent) -> Lent {
+fn run_with_fees(rt: &impl Print, lent: Lent) -> io::Result<Lent> {
     let opcodes = OPCODES;
     let arguments = ARGUMENTS;
     let public = PUBLIC;
@@ -577,8 +579,8 @@ fn run_with_fees(lent: Lent) -> Lent {
         &highest,
         &fees,
     );
-    print::answered(b"run_with_fees", number, &answer);
-    Lent {
+    print::answered(rt, b"run_with_fees", number, &answer)?;
+    Ok(Lent {
         number: number,
         registers: registers,
         answer: before,
@@ -588,10 +590,10 @@ fn run_with_fees(lent: Lent) -> Lent {
         addresses: addresses,
         values: values,
         output: output,
-    }
+    })
 }
 
-fn step_with_fees(lent: Lent) -> Lent {
+fn step_with_fees(rt: &impl Print, lent: Lent) -> io::Result<Lent> {
     let opcodes = OPCODES;
     let arguments = ARGUMENTS;
     let public = PUBLIC;
@@ -629,8 +631,8 @@ fn step_with_fees(lent: Lent) -> Lent {
         &highest,
         &fees,
     );
-    print::answered(b"step_with_fees", number, &answer);
-    Lent {
+    print::answered(rt, b"step_with_fees", number, &answer)?;
+    Ok(Lent {
         number: number,
         registers: registers,
         answer: before,
@@ -640,56 +642,56 @@ fn step_with_fees(lent: Lent) -> Lent {
         addresses: addresses,
         values: values,
         output: output,
-    }
+    })
 }
 
-fn print_answer(call: &[u8], lent: Lent) {
+fn print_answer(rt: &impl Print, call: &[u8], lent: Lent) -> io::Result<()> {
     let answer = lent.answer;
-    print::answered(call, lent.number, &answer);
+    print::answered(rt, call, lent.number, &answer)
 }
 
-fn print_stacks(lent: Lent) {
+fn print_stacks(rt: &impl Print, lent: Lent) -> io::Result<()> {
     let registers = lent.registers;
     let op_stack = lent.op_stack;
     let origins = lent.origins;
     let destinations = lent.destinations;
-    print::words(b"registers", &registers);
-    print::words(b"op_stack", &op_stack);
-    print::words(b"origins", &origins);
-    print::words(b"destinations", &destinations);
+    print::words(rt, b"registers", &registers)?;
+    print::words(rt, b"op_stack", &op_stack)?;
+    print::words(rt, b"origins", &origins)?;
+    print::words(rt, b"destinations", &destinations)
 }
 
-fn print_cells(lent: Lent) {
+fn print_cells(rt: &impl Print, lent: Lent) -> io::Result<()> {
     let addresses = lent.addresses;
     let values = lent.values;
     let output = lent.output;
-    print::words(b"addresses", &addresses);
-    print::words(b"values", &values);
-    print::words(b"output", &output);
+    print::words(rt, b"addresses", &addresses)?;
+    print::words(rt, b"values", &values)?;
+    print::words(rt, b"output", &output)
 }
 
-fn main() {
+fn main(rt: HostRuntime) -> io::Result<()> {
     let opened = open();
-    print_answer(b"open", opened);
-    let traced = trace_execution(opened);
-    print_answer(b"trace_execution", traced);
-    let rowed = trace_rows(opened);
-    print_answer(b"trace_rows", rowed);
-    print_stacks(rowed);
-    helper_variables(traced);
-    processor_row(traced);
+    print_answer(&rt, b"open", opened)?;
+    let traced = trace_execution(&rt, opened)?;
+    print_answer(&rt, b"trace_execution", traced)?;
+    let rowed = trace_rows(&rt, opened)?;
+    print_answer(&rt, b"trace_rows", rowed)?;
+    print_stacks(&rt, rowed)?;
+    helper_variables(&rt, traced)?;
+    processor_row(&rt, traced)?;
     let ran = run(traced);
-    print_answer(b"run", ran);
+    print_answer(&rt, b"run", ran)?;
     let stepped = step(ran);
-    print_answer(b"step", stepped);
-    print_stacks(stepped);
-    print_cells(stepped);
-    let opened_with = open_with_fees();
-    let rowed_with = trace_rows_with_fees(opened_with);
-    print_stacks(rowed_with);
-    let traced_with = trace_execution_with_fees(opened_with);
-    let ran_with = run_with_fees(traced_with);
-    let stepped_with = step_with_fees(ran_with);
-    print_stacks(stepped_with);
-    print_cells(stepped_with);
+    print_answer(&rt, b"step", stepped)?;
+    print_stacks(&rt, stepped)?;
+    print_cells(&rt, stepped)?;
+    let opened_with = open_with_fees(&rt)?;
+    let rowed_with = trace_rows_with_fees(&rt, opened_with)?;
+    print_stacks(&rt, rowed_with)?;
+    let traced_with = trace_execution_with_fees(&rt, opened_with)?;
+    let ran_with = run_with_fees(&rt, traced_with)?;
+    let stepped_with = step_with_fees(&rt, ran_with)?;
+    print_stacks(&rt, stepped_with)?;
+    print_cells(&rt, stepped_with)
 }

@@ -1,28 +1,26 @@
 // Lines for the reader.
-const OUT: i32 = 1;
+use std::io;
 
-fn word(n: u64) {
-    io::write_all(OUT, b" ");
-    io::print_decimal(OUT, n);
+fn word(rt: &impl Print, n: u64) -> io::Result<()> {
+    print!(rt; " {n}")
 }
 
-fn each(words: &[u64]) {
-    let mut i = 0;
-    while i < words.len() {
-        word(words[i]);
-        i += 1;
+fn each(rt: &impl Print, words: &[u64]) -> io::Result<()> {
+    for n in words {
+        word(rt, *n)?;
     }
+    Ok(())
 }
 
-pub fn words(name: &[u8], words: &[u64]) {
-    io::write_all(OUT, name);
-    each(words);
-    io::write_all(OUT, b"\n");
+pub fn words(rt: &impl Print, name: &[u8], words: &[u64]) -> io::Result<()> {
+    rt.write_all(name)?;
+    each(rt, words)?;
+    println!(rt)
 }
 
 // The number that a call gives, and the words of its answer.
-pub fn answered(call: &[u8], number: u64, answer: &[u64]) {
-    io::write_all(OUT, call);
-    word(number);
-    words(b":", answer);
+pub fn answered(rt: &impl Print, call: &[u8], number: u64, answer: &[u64]) -> io::Result<()> {
+    rt.write_all(call)?;
+    word(rt, number)?;
+    words(rt, b":", answer)
 }
