@@ -2,6 +2,7 @@
 // specs/Printed.antt). Reading and writing have no contract that says which bytes: what is written is what `start` and `piece` say, in
 // their order, and that is printedOf's text (proofs/Printing.antt).
 #![tactic(auto)]
+
 mod pending;
 mod refusals;
 
@@ -12,13 +13,12 @@ ghost use Rattle.runjob.specs.StartView.{Blank};
 
 use pending::piece::piece;
 use pending::start::start;
-
-const IN: i32 = 0;
-
-const OUT: i32 = 1;
+use reading::read_full;
+use std::io;
 
 // Piece after piece, until no more are to come.
 fn print_job(
+    rt: &impl Print,
     file: &[u8; 65537],
     n: usize,
     opcodes: &mut [u64],
@@ -34,7 +34,7 @@ fn print_job(
     output: &mut [u64],
     log: &mut [u8],
     text: &mut [u8],
-)
+) -> io::Result<()>
     requires n_bound { (n ≤ 65537) × Room log.old text.old }
     requires blank { Blank (code_at opcodes arguments public secret digests) (memory_at op_stack origins destinations addresses values output) }
 {
@@ -71,8 +71,9 @@ fn print_job(
             text,
         );
         let bytes = job.bytes;
-        io::write_all(OUT, &text[..bytes]);
+        rt.write_all(&text[..bytes])?;
     }
+    Ok(())
 }
 
 // Bytes of the log, and three times as many and 102,496 more for the text, as Room asks. Their contracts give the length and spare the
@@ -89,7 +90,7 @@ fn text_space() -> [u8; 1675360]
     [0; 1675360]
 }
 
-fn main() {
+fn main(rt: HostRuntime) -> io::Result<()> {
     let mut input = [0u8; 65537];
     let mut opcodes = [0u64; 1024];
     let mut arguments = [0u64; 1024];
@@ -104,8 +105,9 @@ fn main() {
     let mut output = [0u64; 4096];
     let mut log = log_space();
     let mut text = text_space();
-    let n = io::read_full(IN, &mut input);
+    let n = read_full(&mut rt.stdin(), &mut input)?;
     print_job(
+        &rt,
         &input,
         n,
         &mut opcodes,
@@ -121,5 +123,5 @@ fn main() {
         &mut output,
         &mut log,
         &mut text,
-    );
+    )
 }
