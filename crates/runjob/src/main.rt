@@ -7,7 +7,7 @@ mod pending;
 mod refusals;
 
 ghost use Rattle.std.specs.Prelude.{◌≡◌, ◌≤◌, length};
-ghost use Rattle.machine.specs.Lent.{code_at, memory_at};
+ghost use Rattle.machine.specs.Machine.{code, memory};
 ghost use Rattle.runjob.specs.PieceView.{Room};
 ghost use Rattle.runjob.specs.StartView.{Blank};
 
@@ -36,7 +36,7 @@ fn print_job(
     text: &mut [u8],
 ) -> io::Result<()>
     requires n_bound { (n ≤ 65537) × Room log.old text.old }
-    requires blank { Blank (code_at opcodes arguments public secret digests) (memory_at op_stack origins destinations addresses values output) }
+    requires blank { Blank (code opcodes.old arguments.old public.old secret.old digests.old) (memory op_stack.old origins.old destinations.old addresses.old values.old output.old) }
 {
     let mut job = start(
         file,

@@ -1,6 +1,6 @@
 // The job that a file says, opened.
 ghost use Rattle.std.specs.Prelude.{◌≤◌, ◌≡◌, take};
-ghost use Rattle.machine.specs.Lent.{code_at, memory_at, memory_out};
+ghost use Rattle.machine.specs.Machine.{code, memory};
 ghost use Rattle.runjob.specs.StartView.{Blank, Starts, pending_of};
 
 use crate::pending::Pending;
@@ -45,10 +45,10 @@ pub fn start(
     output: &[u64],
 ) -> Pending
     requires n_bound { n ≤ 65537 }
-    requires blank { Blank (code_at opcodes arguments public secret digests) (memory_at op_stack origins destinations addresses values output) }
+    requires blank { Blank (code opcodes.old arguments.old public.old secret.old digests.old) (memory op_stack.old origins.old destinations.old addresses.old values.old output.now) }
     ensures { Starts (take n file.now) result
-        (code_at opcodes.exit arguments.exit public.exit secret.exit digests.exit)
-        (memory_out op_stack origins destinations addresses values output) }
+        (code opcodes.new arguments.new public.new secret.new digests.new)
+        (memory op_stack.new origins.new destinations.new addresses.new values.new output.now) }
 {
     let read: &[u8] = file;
     let j = read_job(
