@@ -2,3 +2,4 @@
 pub mod PieceLaws
 pub mod StartLaws
 pub mod Printing
+pub mod Writing

@@ -1,13 +1,15 @@
 // runjob: reads a job file from standard input, runs the job and writes what document 01's printed job says (printed_of, in job's
-// specs/Printed.antt). Reading and writing have no contract that says which bytes: what is written is what `start` and `piece` say, in
-// their order, and that is printedOf's text (proofs/Printing.antt).
+// specs/Printed.antt). `print_job` writes that text, to any writer whose bytes are known; of standard input and output no contract can say
+// which bytes they give and take.
 #![tactic(auto)]
 
 mod pending;
 mod refusals;
 
-ghost use Rattle.std.specs.Prelude.{◌≡◌, ◌≤◌, length};
+ghost use Rattle.std.specs.Prelude.{◌≡◌, ◌≤◌, length, take, OnOk};
+ghost use Rattle.std.specs.Io.KnownBytes.{Appends};
 ghost use Rattle.machine.specs.Machine.{code, memory};
+ghost use Rattle.job.specs.Printed.{printed_of};
 ghost use Rattle.runjob.specs.PieceView.{Room};
 ghost use Rattle.runjob.specs.StartView.{Blank};
 
@@ -15,10 +17,11 @@ use pending::piece::piece;
 use pending::start::start;
 use reading::read_full;
 use std::io;
+use std::io::Write;
 
 // Piece after piece, until no more are to come.
-fn print_job(
-    rt: &impl Print,
+fn print_job<W: Write>(
+    out: &mut W,
     file: &[u8; 65537],
     n: usize,
     opcodes: &mut [u64],
@@ -37,6 +40,7 @@ fn print_job(
 ) -> io::Result<()>
     requires n_bound { (n ≤ 65537) × Room log.old text.old }
     requires blank { Blank (code opcodes.old arguments.old public.old secret.old digests.old) (memory op_stack.old origins.old destinations.old addresses.old values.old output.old) }
+    ensures { OnOk result (Appends (W.contents out.old) (W.contents out.new) (printed_of (take n file.now))) }
 {
     let mut job = start(
         file,
@@ -71,7 +75,7 @@ fn print_job(
             text,
         );
         let bytes = job.bytes;
-        rt.write_all(&text[..bytes])?;
+        out.write_all(&text[..bytes])?;
     }
     Ok(())
 }
@@ -107,7 +111,7 @@ fn main(rt: HostRuntime) -> io::Result<()> {
     let mut text = text_space();
     let n = read_full(&mut rt.stdin(), &mut input)?;
     print_job(
-        &rt,
+        &mut io::writer(&rt),
         &input,
         n,
         &mut opcodes,
