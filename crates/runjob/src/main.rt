@@ -8,7 +8,8 @@ mod refusals;
 
 ghost use Rattle.std.specs.Prelude.{◌≡◌, ◌≤◌, length, take, OnOk};
 ghost use Rattle.std.specs.Io.KnownBytes.{Appends};
-ghost use Rattle.machine.specs.Machine.{code, memory};
+ghost use Rattle.machine.specs.Lent.{memory_at};
+ghost use Rattle.machine.specs.Machine.{code};
 ghost use Rattle.job.specs.Printed.{printed_of};
 ghost use Rattle.runjob.specs.PieceView.{Room};
 ghost use Rattle.runjob.specs.StartView.{Blank};
@@ -39,7 +40,7 @@ fn print_job<W: Write>(
     text: &mut [u8],
 ) -> io::Result<()>
     requires n_bound { (n ≤ 65537) × Room log.old text.old }
-    requires blank { Blank (code opcodes.old arguments.old public.old secret.old digests.old) (memory op_stack.old origins.old destinations.old addresses.old values.old output.old) }
+    requires blank { Blank (code opcodes.old arguments.old public.old secret.old digests.old) (memory_at op_stack origins destinations addresses values output) }
     ensures { OnOk result (Appends (W.contents out.old) (W.contents out.new) (printed_of (take n file.now))) }
 {
     let mut job = start(

@@ -1,7 +1,7 @@
 // A piece of the text that a job prints: the stack lines of as many steps as the log holds and, where the run has ended, the output's lines
 // and the end line behind them.
 ghost use Rattle.std.specs.Prelude.{◌≡◌, true, ◌+◌, ◌*◌, ◌≤◌, ◌<◌, length, take};
-ghost use Rattle.machine.specs.Machine.{code, memory};
+ghost use Rattle.machine.specs.Lent.{code_at, code_in, memory_at, memory_in, memory_out};
 ghost use Rattle.machine_steps.specs.RanView.{ending_in};
 ghost use Rattle.job.specs.Listing.{Put};
 ghost use Rattle.job.specs.Printed.{end_line};
@@ -110,10 +110,10 @@ pub fn piece(
     log: &mut [u8],
     text: &mut [u8],
 ) -> Pending
-    requires ready { Ready job (code opcodes.now arguments.now public.now secret.now digests.now) (memory op_stack.old origins.old destinations.old addresses.old values.old output.old) }
+    requires ready { Ready job (code_at opcodes arguments public secret digests) (memory_at op_stack origins destinations addresses values output) }
     requires more_value { (job.more ≡ true) × Room log.old text.old }
-    ensures { Writes job (code opcodes.now arguments.now public.now secret.now digests.now) (memory op_stack.old origins.old destinations.old addresses.old values.old output.old)
-        result (memory op_stack.new origins.new destinations.new addresses.new values.new output.new) text.new }
+    ensures { Writes job (code_in opcodes arguments public secret digests) (memory_in op_stack origins destinations addresses values output)
+        result (memory_out op_stack origins destinations addresses values output) text.new }
 {
     if job.number != 0 {
         let refused = refused_line(text, 0, job.number, 0, 0, 0);
