@@ -6,4 +6,4 @@ use Rattle.exports_words.proofs.registers.read_registers.Goals as goal
 pub returns : goal.returns
 unfolding state_of
 returns c =
-    rw (read-words c.args.registers.now c.copy.new.0 c.requires.long c.copy.ensures)
+    rw (read-words c.args.registers.now c.copy.new.dst c.requires.long c.copy.ensures)

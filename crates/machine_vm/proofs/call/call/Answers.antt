@@ -14,7 +14,7 @@ check_fees-fault-requires c =
 pub steps-requires : goal.steps-requires
 steps-requires c =
     let w = c.args.state.sponge.words in
-    let sixteen : length w ≡ 16 = length_unmapped ℕ w 16 c.well_formed.1.1.1.1.0.1.1.1.1.1.1.1.1.1.1.1.0.1.1.0.1.0.1 in
+    let sixteen : length w ≡ 16 = search rules in
     let early : c.args.state.clock < 4294967296 = omega (arith, c.well_formed.1.1.1.1.0) in
     let e = call-number _ c.requires c.above-table_shape.ensures c.above-shape.ensures c.check_machine-fault_number.ensures c.first.ensures c.first-n.ensures in
     call-stands c.args.budget _ c.requires e c.check_fees-fault.ensures c.if-fault-eq0.true sixteen early
@@ -23,7 +23,7 @@ pub returns-then-fault-eq0 : goal.returns-then-fault-eq0
 returns-then-fault-eq0 c =
     let e = call-number _ c.requires c.above-table_shape.ensures c.above-shape.ensures c.check_machine-fault_number.ensures c.first.ensures c.first-n.ensures in
     let w = c.args.state.sponge.words in
-    let sixteen : length w ≡ 16 = length_unmapped ℕ w 16 c.well_formed.1.1.1.1.0.1.1.1.1.1.1.1.1.1.1.1.0.1.1.0.1.0.1 in
+    let sixteen : length w ≡ 16 = search rules in
     let early : c.args.state.clock < 4294967296 = omega (arith, c.well_formed.1.1.1.1.0) in
     let s = call-stands c.args.budget _ c.requires e c.check_fees-fault.ensures c.if-fault-eq0.true sixteen early in
     call-accepted _ _ c.requires e c.check_fees-fault.ensures c.if-fault-eq0.true s.sound c.steps.ensures

@@ -10,7 +10,7 @@ use Rattle.machine_vm.proofs.step.checked.Goals as goal
 pub advance-requires : goal.advance-requires
 advance-requires c =
     let w = c.args.state.sponge.words in
-    let sixteen : length w ≡ 16 = length_unmapped ℕ w 16 c.well_formed.1.0.1.1.1.1.1.1.1.1.1.1.1.0.1.1.0.1.0.1 in
+    let sixteen : length w ≡ 16 = search rules in
     let early : c.args.state.clock < 4294967296 = omega (arith, c.well_formed.1.0) in
     stands _ _ sixteen early (step-number _ c.args.b.now c.check_buffer-shape.ensures c.check_machine-fault_number.ensures c.first-n.ensures) c.check_fees-fault.ensures c.if-fault-eq0.true
 
