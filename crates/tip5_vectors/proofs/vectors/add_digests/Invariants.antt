@@ -1,0 +1,22 @@
+use mathlib.Core.List.{List}
+use mathlib.Core.Path.{◌≡◌, refl, sym}
+use Prim.Native.Nat.{ℕ, ◌-◌, ◌<◌, ◌≤◌}
+use native.Mathlib.Omega.{arith}
+use borrow.Author.Rules.{rules}
+use lib.Dec.{lit<}
+use lib.ListN.{take, get_or, length-set, length}
+use Rattle.field.specs.Base.{p, add_p}
+use Rattle.tip5.specs.Tab.{tab, tab_zero}
+use Rattle.field.proofs.Ring.{below}
+use Rattle.tip5.proofs.Tab.{tab-more, tab-all, tab-below}
+use Rattle.tip5_vectors.proofs.vectors.add_digests.Given as goal
+
+-- `tip5_vectors::vectors::add_digests` meets its contract. Assumes nothing.
+abbrev pub sums : List ℕ → List ℕ → ℕ → ℕ
+sums a b i = add_p (get_or a i 0) (get_or b i 0)
+
+abbrev pub invariant-loop-i : goal.invariant-loop-i
+invariant-loop-i l = (l.i ≤ 5) × (length l.out ≡ 5) × (take l.i l.out ≡ tab (sums l.a l.b) l.i)
+
+abbrev pub decreases-loop-i : goal.decreases-loop-i
+decreases-loop-i l = 5 - l.i
