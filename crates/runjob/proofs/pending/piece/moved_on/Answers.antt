@@ -1,0 +1,5 @@
+use borrow.Author.Rules.{rules}
+use Rattle.runjob.proofs.pending.piece.moved_on.Goals as goal
+
+pub returns : goal.returns
+returns c = rw c.is_full.ensures
