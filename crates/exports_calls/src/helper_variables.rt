@@ -1,6 +1,6 @@
 // The helper call over numbers and slices.
 ghost use Rattle.std.specs.Prelude.{◌≡◌};
-ghost use Rattle.machine.specs.Lent.{code_in, seen_in};
+ghost use Rattle.machine.specs.Lent.{code_in, shared_in};
 ghost use Rattle.machine.specs.Given.{given};
 ghost use Rattle.exports_calls.specs.GivenCall.{helper_call};
 
@@ -28,7 +28,7 @@ pub fn helper_call(
 ) -> u64
     ensures { given result helpers.new ≡ helper_call registers.now helpers.old
         (code_in opcodes arguments public secret digests)
-        (seen_in op_stack origins destinations addresses values output) }
+        (shared_in op_stack origins destinations addresses values output) }
 {
     if fits(registers, helpers, 6) {
         let state = read_registers(registers);

@@ -1,5 +1,5 @@
 -- What is lent, as a contract names it: the program with its inputs, and the memory. `at` is for a `requires`, where a parameter is its value; in an
--- `ensures` it is that value at entry (`in`) and what it refers to at exit (`out`). Memory that a call may only look at is `seen`.
+-- `ensures` it is that value at entry (`in`) and what it refers to at exit (`out`). Memory that a call may only look at is `shared`.
 use Rattle.std.specs.Prelude.{ℕ, List}
 use denote.Ref.{Bor, MutBor}
 use denote.Triple.Both.{Both}
@@ -23,8 +23,8 @@ code_at o a u s d = code o.now a.now u.now s.now d.now
 abbrev pub memory_at : MutSlice → MutSlice → MutSlice → MutSlice → MutSlice → MutSlice → Memory
 memory_at s o d a v w = memory s.now o.now d.now a.now v.now w.now
 
-abbrev pub seen_at : Slice → Slice → Slice → Slice → Slice → Slice → Memory
-seen_at s o d a v w = memory s.now o.now d.now a.now v.now w.now
+abbrev pub shared_at : Slice → Slice → Slice → Slice → Slice → Slice → Memory
+shared_at s o d a v w = memory s.now o.now d.now a.now v.now w.now
 
 abbrev pub code_in : Slices → Slices → Slices → Slices → Slices → Code
 code_in o a u s d = code_at o.entry a.entry u.entry s.entry d.entry
@@ -35,8 +35,8 @@ memory_in s o d a v w = memory_at s.entry o.entry d.entry a.entry v.entry w.entr
 abbrev pub memory_out : MutSlices → MutSlices → MutSlices → MutSlices → MutSlices → MutSlices → Memory
 memory_out s o d a v w = memory_at s.exit o.exit d.exit a.exit v.exit w.exit
 
-abbrev pub seen_in : Slices → Slices → Slices → Slices → Slices → Slices → Memory
-seen_in s o d a v w = seen_at s.entry o.entry d.entry a.entry v.entry w.entry
+abbrev pub shared_in : Slices → Slices → Slices → Slices → Slices → Slices → Memory
+shared_in s o d a v w = shared_at s.entry o.entry d.entry a.entry v.entry w.entry
 
 -- an opening may change the three stacks, and only looks at RAM and output
 abbrev pub opening_in : MutSlices → MutSlices → MutSlices → Slices → Slices → Slices → Memory

@@ -1,7 +1,7 @@
 // The helper call: place A, then the six helper variables.
 ghost use Rattle.std.specs.Prelude.{◌≡◌};
 ghost use Rattle.machine.specs.Machine.{machine};
-ghost use Rattle.machine.specs.Lent.{code_in, seen_in};
+ghost use Rattle.machine.specs.Lent.{code_in, shared_in};
 ghost use Rattle.machine.specs.HelperVariables.{helper_variables_of};
 ghost use Rattle.machine_open.specs.GivenView.{helped_of};
 
@@ -32,7 +32,7 @@ pub fn helper_variables(
     output: &[u64],
 ) -> Helped
     ensures { helped_of result ≡ helper_variables_of (machine state (code_in opcodes arguments public secret digests)
-        (seen_in op_stack origins destinations addresses values output)) }
+        (shared_in op_stack origins destinations addresses values output)) }
 {
     let n = check_machine(
         state,

@@ -1,7 +1,7 @@
 // The row call: place A, then the row of the processor table.
 ghost use Rattle.std.specs.Prelude.{◌≡◌};
 ghost use Rattle.machine.specs.Machine.{machine};
-ghost use Rattle.machine.specs.Lent.{code_in, seen_in};
+ghost use Rattle.machine.specs.Lent.{code_in, shared_in};
 ghost use Rattle.machine.specs.ProcessorRow.{processor_row_of};
 ghost use Rattle.machine_open.specs.GivenView.{rowed_of};
 
@@ -32,7 +32,7 @@ pub fn processor_row(
     output: &[u64],
 ) -> Rowed
     ensures { rowed_of result ≡ processor_row_of (machine state (code_in opcodes arguments public secret digests)
-        (seen_in op_stack origins destinations addresses values output)) }
+        (shared_in op_stack origins destinations addresses values output)) }
 {
     let n = check_machine(
         state,

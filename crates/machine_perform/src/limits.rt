@@ -2,7 +2,7 @@
 ghost use Rattle.std.specs.Prelude.{◌≡◌, ◌+◌, ◌≤◌, length};
 ghost use Rattle.machine_ram.specs.RamView.{Ordered};
 ghost use Rattle.choices.specs.Choice.{above_of};
-ghost use Rattle.machine.specs.Lent.{seen_at, seen_in};
+ghost use Rattle.machine.specs.Lent.{shared_at, shared_in};
 ghost use Rattle.machine_perform.specs.PerformView.{jumps_by, among_of, new_of, fresh_of, Fit, Limited};
 
 use choices::numbers::{above, first, least};
@@ -120,8 +120,8 @@ pub fn limits(
     values: &[u64],
     output: &[u64],
 ) -> u64
-    requires { Fit state effect (seen_at op_stack origins destinations addresses values output) }
-    ensures { Limited state effect (seen_in op_stack origins destinations addresses values output) result }
+    requires { Fit state effect (shared_at op_stack origins destinations addresses values output) }
+    ensures { Limited state effect (shared_in op_stack origins destinations addresses values output) result }
 {
     let depth = state.depth - effect.pops + least(effect.count, 16);
     let outputs = state.outputs + least(effect.outputs, 5);

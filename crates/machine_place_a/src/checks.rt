@@ -5,7 +5,7 @@ ghost use Rattle.choices.specs.Choice.{first_of, above_of, differ_of};
 ghost use Rattle.machine.specs.Words.{word_of2, words_of};
 ghost use Rattle.machine.specs.Ram.{cells as cells_of, cells1, cells2, cells5};
 ghost use Rattle.machine.specs.Machine.{machine, code};
-ghost use Rattle.machine.specs.Lent.{code_in, seen_in};
+ghost use Rattle.machine.specs.Lent.{code_in, shared_in};
 ghost use Rattle.machine.specs.PlaceA.{longest, most_bytes, code1, memory1, code2, used2, code34, revision4, unused5, machine_a, open_a};
 
 use choices::numbers::{above, differ, first, least};
@@ -71,7 +71,7 @@ fn memory_lengths(
     values: &[u64],
     output: &[u64],
 ) -> u64
-    ensures { result ≡ memory1 (seen_in op_stack origins destinations addresses values output) }
+    ensures { result ≡ memory1 (shared_in op_stack origins destinations addresses values output) }
 {
     let deep = op_stack.len();
     let from = origins.len();
@@ -283,7 +283,7 @@ pub fn check_machine(
     output: &[u64],
 ) -> u64
     ensures { result ≡ machine_a (machine state (code_in opcodes arguments public secret digests)
-        (seen_in op_stack origins destinations addresses values output)) }
+        (shared_in op_stack origins destinations addresses values output)) }
 {
     let read = code_lengths(opcodes, arguments, public, secret, digests);
     let lent = memory_lengths(op_stack, origins, destinations, addresses, values, output);
@@ -324,7 +324,7 @@ pub fn check_open(
     cells: usize,
 ) -> u64
     ensures { result ≡ open_a revision digest (code_in opcodes arguments public secret digests)
-        (seen_in op_stack origins destinations addresses values output) cells }
+        (shared_in op_stack origins destinations addresses values output) cells }
 {
     let read = code_lengths(opcodes, arguments, public, secret, digests);
     let lent = memory_lengths(op_stack, origins, destinations, addresses, values, output);

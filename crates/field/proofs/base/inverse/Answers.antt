@@ -1,5 +1,4 @@
 -- `field::base::inverse` meets its contract, by the law of the inverse.
-use borrow.Author.Rules.{rules}
 use mathlib.Core.Path.{ap, ◌∙◌}
 use Prim.Native.Nat.{ℕ}
 use Rattle.field.specs.Base.{mul_p}

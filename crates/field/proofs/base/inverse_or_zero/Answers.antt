@@ -1,5 +1,4 @@
 -- `field::base::inverse_or_zero` meets its contract: each power of a in the chain has the exponent that its name tells.
-use borrow.Author.Rules.{rules}
 use mathlib.Core.Path.{◌≡◌, sym, ◌∙◌}
 use Prim.Native.Nat.{◌^◌}
 use native.Mathlib.Nat.{mod-eq_of_lt}

@@ -2,11 +2,10 @@ use mathlib.Core.Logic.{⊎_elim}
 use native.Mathlib.Nat.{one-mul}
 use lib.Dec.{lit<}
 use Rattle.field.proofs.Remainder.{odd_step, even_step, last_step}
-use borrow.Author.Rules.{rules}
 use Rattle.field.specs.Base.{p}
-use Prim.Native.Nat.{ℕ, ◌*◌, ◌%◌, ◌^◌, ◌<◌}
+use Prim.Native.Nat.{ℕ, ◌%◌, ◌^◌}
 use native.Mathlib.Omega.{arith}
-use mathlib.Core.Path.{◌≡◌, ap, ◌∙◌}
+use mathlib.Core.Path.{ap, ◌∙◌}
 use Rattle.field.proofs.base.mod_pow.Goals as goal
 
 pub loop-k-init : goal.loop-k-init

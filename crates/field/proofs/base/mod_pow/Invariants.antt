@@ -1,13 +1,7 @@
 -- `field::base::mod_pow` meets its contract: at each turn acc * b ^ k is base ^ exponent.
-use mathlib.Core.Logic.{⊎_elim}
-use native.Mathlib.Nat.{one-mul}
-use lib.Dec.{lit<}
-use Rattle.field.proofs.Remainder.{odd_step, even_step, last_step}
-use borrow.Author.Rules.{rules}
 use Rattle.field.specs.Base.{p}
-use Prim.Native.Nat.{ℕ, ◌*◌, ◌%◌, ◌^◌, ◌<◌}
-use native.Mathlib.Omega.{arith}
-use mathlib.Core.Path.{◌≡◌, ap, ◌∙◌}
+use Prim.Native.Nat.{◌*◌, ◌%◌, ◌^◌, ◌<◌}
+use mathlib.Core.Path.{◌≡◌}
 use Rattle.field.proofs.base.mod_pow.Given as goal
 
 abbrev pub invariant-loop-k : goal.invariant-loop-k

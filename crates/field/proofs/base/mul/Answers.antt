@@ -3,7 +3,6 @@ use mathlib.Core.Path.{◌∙◌, ap}
 use Prim.Native.Nat.{ℕ, ◌+◌, ◌*◌, ◌^◌, ◌%◌}
 use native.Mathlib.Nat.{div-add-mod'}
 use Rattle.field.specs.Base.{p}
-use borrow.Author.Rules.{rules}
 use Rattle.field.proofs.base.mul.Goals as goal
 
 pub returns : goal.returns

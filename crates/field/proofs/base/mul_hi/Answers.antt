@@ -1,5 +1,5 @@
 use native.Mathlib.Omega.{arith}
-use Rattle.field.proofs.Reduction.{Halves, halves, upper_is}
+use Rattle.field.proofs.Reduction.{halves, upper_is}
 use Rattle.field.proofs.base.mul_hi.Goals as goal
 
 pub returns : goal.returns

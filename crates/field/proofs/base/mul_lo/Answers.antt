@@ -1,5 +1,5 @@
 use native.Mathlib.Omega.{arith}
-use Rattle.field.proofs.Reduction.{Halves, halves, lower-is}
+use Rattle.field.proofs.Reduction.{halves, lower-is}
 use Rattle.field.proofs.base.mul_lo.Goals as goal
 
 pub returns : goal.returns

@@ -1,9 +1,7 @@
-use borrow.Author.Rules.{rules}
-use mathlib.Core.Path.{◌≡◌, sym, ◌∙◌}
-use Prim.Native.Nat.{◌^◌, ◌-◌, ◌≤◌}
+use mathlib.Core.Path.{sym, ◌∙◌}
 use native.Mathlib.Nat.{mod-eq_of_lt}
 use native.Mathlib.Omega.{arith}
-use Rattle.field.specs.Base.{p, pow_p}
+use Rattle.field.specs.Base.{p}
 use Rattle.field.proofs.Remainder.{pow_one}
 use Rattle.field.proofs.Power.{doubled, raised_all}
 use Rattle.field.proofs.base.squared.Goals as goal

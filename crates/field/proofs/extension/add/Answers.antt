@@ -1,5 +1,4 @@
 -- `field::extension::add` meets its contract, coefficient by coefficient.
-use borrow.Author.Rules.{rules}
 use Rattle.field.specs.Extension.{add_x}
 use Rattle.field.proofs.CubicProduct.{xfe-path}
 use Rattle.field.proofs.extension.add.Goals as goal

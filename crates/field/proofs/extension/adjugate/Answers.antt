@@ -1,5 +1,4 @@
 -- `field::extension::adjugate` meets its contract: its sums and differences of words are the coefficients of the adjugate.
-use borrow.Author.Rules.{rules}
 use Rattle.field.proofs.Coefficients.{adjugate_is}
 use Rattle.field.proofs.extension.adjugate.Goals as goal
 

@@ -1,4 +1,3 @@
-use borrow.Author.Rules.{rules}
 use Rattle.field.proofs.Coefficients.{constant_is}
 use Rattle.field.proofs.extension.constant_of_product.Goals as goal
 

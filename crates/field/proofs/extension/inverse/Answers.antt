@@ -1,5 +1,4 @@
 -- `field::extension::inverse` meets its contract, by the law of the inverse.
-use borrow.Author.Rules.{rules}
 use mathlib.Core.Path.{ap, ◌∙◌}
 use Rattle.field.specs.Extension.{mul_x}
 use Rattle.field.proofs.ExtensionInverse.{inverse_x_some}

@@ -1,4 +1,3 @@
-use borrow.Author.Rules.{rules}
 use Rattle.field.specs.Extension.{norm_x, inverse_x}
 use Rattle.field.proofs.ExtensionRing.{mul_x-words}
 use Rattle.field.proofs.extension.inverse_or_zero.Goals as goal

@@ -1,5 +1,4 @@
 -- `field::extension::mul` meets its contract: its sums and differences of words are the coefficients of the product.
-use borrow.Author.Rules.{rules}
 use Rattle.field.proofs.Coefficients.{product_is}
 use Rattle.field.proofs.extension.mul.Goals as goal
 

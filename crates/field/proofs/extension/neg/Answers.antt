@@ -1,5 +1,4 @@
 -- `field::extension::neg` meets its contract, coefficient by coefficient.
-use borrow.Author.Rules.{rules}
 use Rattle.field.specs.Extension.{neg_x}
 use Rattle.field.proofs.CubicProduct.{xfe-path}
 use Rattle.field.proofs.extension.neg.Goals as goal

@@ -1,5 +1,4 @@
 -- `field::extension::scale` meets its contract, coefficient by coefficient.
-use borrow.Author.Rules.{rules}
 use Rattle.field.specs.Extension.{scale_x}
 use Rattle.field.proofs.CubicProduct.{xfe-path}
 use Rattle.field.proofs.extension.scale.Goals as goal

@@ -1,5 +1,4 @@
 -- `field::extension::sub` meets its contract, coefficient by coefficient.
-use borrow.Author.Rules.{rules}
 use Rattle.field.specs.Extension.{sub_x}
 use Rattle.field.proofs.CubicProduct.{xfe-path}
 use Rattle.field.proofs.extension.sub.Goals as goal
