@@ -1,4 +1,4 @@
-//! Finds the proved library: libexports.a in the folder EXPORTS, or where `rt staticlib exports` writes it.
+//! Finds the proved library: libexports.a in the folder EXPORTS, or where host/library writes it.
 use std::env;
 use std::path::Path;
 
@@ -10,7 +10,7 @@ fn main() {
     println!("cargo:rerun-if-changed={}", library.display());
     println!("cargo:rustc-link-search=native={folder}");
     if !Path::new(&folder).is_absolute() || !library.is_file() {
-        let how = "make it by `rt staticlib exports`, or set EXPORTS to the absolute path of its folder";
+        let how = "make it by host/library, or set EXPORTS to the absolute path of its folder";
         println!("cargo::error=no libexports.a in {folder}: {how}");
     }
 }
