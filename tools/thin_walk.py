@@ -1,5 +1,8 @@
 #!/usr/bin/env python3
-"""Writes the proof of a thin function
+"""Not needed today: `rt check` proves such a function with no file, and what this writes is in the spelling of an older Rattle. A walk by hand
+starts from docs/WALKS.md of the toolchain's guides.
+
+Wrote the proof of a thin function
 
     pub fn F(regs: &mut T, p1: .., p2: .., ..) -> u64 { let a = CALLEE(*regs, p1, p2, ..); *regs = a.state; a.number }
 

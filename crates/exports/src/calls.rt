@@ -118,8 +118,7 @@ pub extern "C" fn triton_step(
     )
 }
 
-// As triton_step, but that the registers are a struct, so that all they can hold fits. It has one call and no test, since its proof follows
-// each of its steps by hand.
+// As triton_step, but that the registers are a struct, so that all they can hold fits.
 #[unsafe(no_mangle)]
 pub extern "C" fn triton_step_registers(
     registers: &mut Registers,
