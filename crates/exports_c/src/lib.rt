@@ -14,7 +14,7 @@ ghost use Rattle.exports_words.specs.Calls.{interface_version, called, recorded,
 ghost use Rattle.machine.specs.FeeTable.{fee_table, unpriced, priced};
 ghost use Rattle.machine.specs.Ram.{cells as cells_of};
 ghost use Rattle.machine.specs.Given.{given};
-ghost use Rattle.machine.specs.Lent.{code_in, memory_in, memory_out, opening_in, opening_out, seen_in};
+ghost use Rattle.machine.specs.Lent.{code_in, memory_in, memory_out, opening_in, opening_out, shared_in};
 ghost use Rattle.std.specs.Prelude.{◌≡◌};
 
 use exports_calls::thin::Registers;
@@ -298,7 +298,7 @@ pub extern "C" fn triton_helper_variables(
 ) -> u64
     ensures { given result helpers.new ≡ helper_call registers.now helpers.old
         (code_in opcodes arguments public secret digests)
-        (seen_in op_stack origins destinations addresses values output) }
+        (shared_in op_stack origins destinations addresses values output) }
 {
     exports::calls::triton_helper_variables(
         registers,
@@ -335,7 +335,7 @@ pub extern "C" fn triton_processor_row(
 ) -> u64
     ensures { given result row.new ≡ row_call registers.now row.old
         (code_in opcodes arguments public secret digests)
-        (seen_in op_stack origins destinations addresses values output) }
+        (shared_in op_stack origins destinations addresses values output) }
 {
     exports::calls::triton_processor_row(
         registers,
