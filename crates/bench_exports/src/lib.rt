@@ -1,5 +1,6 @@
 // The field and Tip5 for the benchmark's driver in Rust.
 #![tactic(auto)]
+
 ghost use Rattle.std.specs.Prelude.{◌≡◌};
 ghost use Rattle.field.specs.Base.{mul_p};
 ghost use Rattle.tip5.specs.Permutation.{Permuted};

@@ -3,9 +3,9 @@ use mathlib.Core.Path.{◌≡◌, refl}
 use mathlib.Core.Bool.{Bool, true, false}
 use Prim.Native.Nat.{ℕ, ◌≤◌, ◌<◌}
 use native.Mathlib.Omega.{arith}
-use borrow.Author.Tests.{eq-eqb, ne_eqb, lt-ltb, le-ltb, ltb-true, ltb-false, eqb-true, eqb-false}
+use borrow.Author.Tests.{eq-eqb, ne_eqb, lt-ltb, le-ltb, ltb-false, eqb-true, eqb-false}
 use lib.Dec.{eqb, ltb}
-use Rattle.choices.specs.Choice.{cond, first_of, above_of, differ_of}
+use Rattle.choices.specs.Choice.{first_of, above_of, differ_of}
 
 pub first_zero : (a b : ℕ) → a ≡ 0 → first_of a b ≡ b
 unfolding first_of

@@ -1,3 +1,4 @@
 // Choices between numbers, for all layers.
 #![tactic(auto)]
+
 pub mod numbers;

@@ -55,4 +55,5 @@
 // their length. Of a fee table 1 is slices of different lengths and a fee at or above 2^32; 64 to 66, which come behind place A's 1 to 5, also where the
 // machine is halted, change nothing (machine, specs/FeeTable.antt).
 #![tactic(auto)]
+
 pub mod calls;

@@ -1,5 +1,6 @@
 // The calls over numbers and slices, by those of the machine and of replay.
 #![tactic(auto)]
+
 pub mod given;
 pub mod helper_variables;
 pub mod open;

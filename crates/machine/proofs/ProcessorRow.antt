@@ -1,9 +1,9 @@
 -- A row has as many words as its columns are, and so many rows as there are steps. Assumes nothing.
 use mathlib.Core.Path.{◌≡◌, refl, ◌∙◌}
-use mathlib.Core.List.{List, [], ◌∷◌, ◌++◌}
-use Prim.Native.Nat.{ℕ, ◌+◌, ◌*◌, ◌≤◌, min}
+use mathlib.Core.List.{List, [], ◌∷◌}
+use Prim.Native.Nat.{ℕ, ◌*◌}
 use native.Mathlib.Omega.{arith}
-use lib.ListN.{length, replicate, take, length-append, length-take, length-replicate}
+use lib.ListN.{length, length-append, length-take, length-replicate}
 use lib.Dec.{ltb}
 use Rattle.choices.specs.Choice.{cond}
 use Rattle.machine.specs.Lengths.{row_words}

@@ -15,7 +15,7 @@ use Rattle.machine.specs.Machine as M
 use Rattle.machine.specs.Effect.{Call, Effect, acts}
 use Rattle.machine.specs.Decide.{opcode_of, argument_of, decide_of}
 use Rattle.machine.specs.Apply.{depth_after, stack_after}
-use Rattle.machine.specs.Records.{Record, other, timed, stack, ram, record_bytes, log_bytes, clocked, call_record, call_records, growing, shrinking, stack_records, records_of}
+use Rattle.machine.specs.Records.{Record, other, timed, stack, record_bytes, log_bytes, clocked, call_record, call_records, growing, shrinking, stack_records, records_of}
 use Rattle.machine.specs.Sound.{Sound, Honest}
 use Rattle.machine.proofs.Bytes.{bytes-length}
 use Rattle.machine.proofs.Records.{words-bytes-length, stack-length, ram-length}

@@ -9,7 +9,7 @@ use lib.ListN.{length, take, drop, get_or, set, replicate}
 use lib.Seq.{take-suc, take-length, get_or-take}
 use lib.Dec.{eqb, ltb, lit<}
 use Rattle.field.specs.Base.{p}
-use Rattle.choices.specs.Choice.{cond, first_of, above_of}
+use Rattle.choices.specs.Choice.{above_of}
 use Rattle.machine.specs.Words.{Words, none, more, word_of2, words_of, zeros_from}
 use Rattle.choices.proofs.Choice.{first_zero, first-nil, above-not, above-is, above-nil}
 

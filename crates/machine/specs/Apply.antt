@@ -1,13 +1,12 @@
 -- What an effect makes of the machine, and place D: whether there is room for it.
-use Rattle.std.specs.Prelude.{ℕ, zero, suc, ◌+◌, ◌-◌, Bool, true, false, List, [], ◌∷◌, length, set, replicate, eqb}
+use Rattle.std.specs.Prelude.{ℕ, ◌+◌, ◌-◌, List, [], ◌∷◌, length, set, replicate, eqb}
 use Rattle.std.proofs.Math.Seq.{paste}
 use Rattle.tip5.specs.declared.sponge.Sponge.{Sponge}
-use Rattle.machine.specs.declared.state.VMState.{VMState}
 use Rattle.choices.specs.Choice.{cond, first_of, above_of}
 use Rattle.machine.specs.Refusal.{Refusal, plainly}
-use Rattle.machine.specs.Ram.{Cells, cells, stored}
+use Rattle.machine.specs.Ram.{Cells, stored}
 use Rattle.machine.specs.Instruction.{size_of}
-use Rattle.machine.specs.Machine.{Machine, machine, Memory, ram}
+use Rattle.machine.specs.Machine.{Machine, machine, ram}
 use Rattle.machine.specs.Effect.{Call, reset, tip5, u32, ram_read, ram_write, Next, onward, to, JumpChange, stays, pushes, pops, SpongeChange, keeps, becomes, Effect, Decision, acts, refuses, drops}
 use Rattle.machine.specs.Decide.{opcode_of}
 

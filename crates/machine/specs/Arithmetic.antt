@@ -1,5 +1,5 @@
 -- Arithmetic on words and on extension words.
-use Rattle.std.specs.Prelude.{ℕ, ◌+◌, Bool, true, false, List, [], ◌∷◌, eqb}
+use Rattle.std.specs.Prelude.{ℕ, ◌+◌, Bool, false, List, [], ◌∷◌, eqb}
 use Rattle.field.specs.declared.extension.XFieldElement.{XFieldElement}
 use Rattle.field.specs.Base.{add_p, mul_p, inverse_p}
 use Rattle.field.specs.Extension.{xfe, add_x, mul_x, scale_x, inverse_x}

@@ -1,5 +1,5 @@
 -- Numbers as little-endian bytes, and back.
-use Rattle.std.specs.Prelude.{ℕ, zero, suc, ◌+◌, ◌*◌, ◌/◌, ◌%◌, ◌<◌, Bool, true, false, List, [], ◌∷◌, ◌++◌, get_or, eqb, ltb}
+use Rattle.std.specs.Prelude.{ℕ, zero, suc, ◌+◌, ◌*◌, ◌/◌, ◌%◌, ◌<◌, Bool, false, List, [], ◌∷◌, get_or, eqb, ltb}
 use Rattle.choices.specs.Choice.{cond}
 
 -- a list of bytes

@@ -1,5 +1,5 @@
 -- Places B and C: what the next instruction does, or its refusal.
-use Rattle.std.specs.Prelude.{ℕ, ◌+◌, Bool, length, get_or, ltb}
+use Rattle.std.specs.Prelude.{ℕ, ◌+◌, length, get_or, ltb}
 use Rattle.choices.specs.Choice.{cond}
 use Rattle.machine.specs.Refusal.{plainly, machine_halted, instruction_pointer_overflow, op_stack_too_shallow}
 use Rattle.machine.specs.Instruction.{Instruction, Row, Decoded, known, unknown, decode, grown_by, shrunk_by}

@@ -1,5 +1,5 @@
 -- An instruction is an effect: what it takes and puts, and what it records. How an effect changes the machine is Apply's.
-use Rattle.std.specs.Prelude.{ℕ, ◌^◌, Bool, true, false, List, [], ltb}
+use Rattle.std.specs.Prelude.{ℕ, ◌^◌, Bool, false, List, [], ltb}
 use Rattle.tip5.specs.declared.sponge.Sponge.{Sponge}
 use Rattle.choices.specs.Choice.{cond}
 use Rattle.machine.specs.Refusal.{Refusal, failed_u32_conversion}

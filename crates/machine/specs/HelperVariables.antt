@@ -4,7 +4,7 @@ use Rattle.field.specs.Base.{add_p, sub_p, inverse_p}
 use Rattle.choices.specs.Choice.{cond}
 use Rattle.machine.specs.Instruction.{Instruction, Row, Decoded, known, unknown, decode}
 use Rattle.machine.specs.Instruction as I
-use Rattle.machine.specs.Ram.{Cells, held}
+use Rattle.machine.specs.Ram.{held}
 use Rattle.machine.specs.Machine.{Machine, st, top, ram, digests_left}
 use Rattle.machine.specs.Memory.{words_up}
 use Rattle.machine.specs.Decide.{opcode_of, argument_of}

@@ -1,5 +1,5 @@
 -- What a call is handed: registers, what is lent to be read and what is lent to be changed; and how it is looked at.
-use Rattle.std.specs.Prelude.{ℕ, ◌+◌, ◌-◌, ◌*◌, List, length, get_or, take, drop, ltb}
+use Rattle.std.specs.Prelude.{ℕ, ◌-◌, ◌*◌, List, get_or, take, drop, ltb}
 use Rattle.machine.specs.declared.state.VMState.{VMState}
 use Rattle.choices.specs.Choice.{cond}
 use Rattle.machine.specs.Ram.{Cells, cells}

@@ -1,5 +1,5 @@
 -- Merkle steps and dot-product steps.
-use Rattle.std.specs.Prelude.{ℕ, ◌+◌, ◌/◌, ◌%◌, List, [], ◌∷◌, ◌++◌, length, get_or, take, eqb, ltb}
+use Rattle.std.specs.Prelude.{ℕ, ◌/◌, ◌%◌, List, [], ◌∷◌, ◌++◌, length, take, eqb, ltb}
 use Rattle.field.specs.declared.extension.XFieldElement.{XFieldElement}
 use Rattle.field.specs.Base.{add_p}
 use Rattle.field.specs.Extension.{xfe, add_x, mul_x, scale_x}

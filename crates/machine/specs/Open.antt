@@ -1,7 +1,6 @@
 -- open: the machine before the first step, with a log of the revision chosen.
 use Rattle.std.specs.Prelude.{ℕ, ◌-◌, false, List, ◌∷◌, length, get_or, replicate, eqb}
 use Rattle.tip5.specs.declared.sponge.Sponge.{Sponge}
-use Rattle.machine.specs.declared.state.VMState.{VMState}
 use Rattle.choices.specs.Choice.{cond}
 use Rattle.machine.specs.Machine.{Code, Memory, Machine, machine}
 use Rattle.machine.specs.Apply.{Outcome, took, kept}

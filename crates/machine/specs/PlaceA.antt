@@ -1,9 +1,9 @@
 -- Place A: what a call finds wrong with what it is handed, by numbers 1 to 5, each tried over everything before the next.
-use Rattle.std.specs.Prelude.{ℕ, zero, suc, ◌+◌, ◌-◌, ◌*◌, ◌/◌, ◌%◌, min, List, [], ◌∷◌, length, get_or, eqb}
+use Rattle.std.specs.Prelude.{ℕ, zero, suc, ◌-◌, ◌/◌, ◌%◌, min, List, [], ◌∷◌, length, get_or, eqb}
 use Rattle.choices.specs.Choice.{cond, first_of, first_in, above_of, differ_of}
 use Rattle.machine.specs.Words.{word_of2, words_of, zeros_from}
 pub use Rattle.machine.specs.Lengths.{longest, too_long, most_bytes}
-use Rattle.machine.specs.Ram.{Cells, cells, cells1, cells2, cells5}
+use Rattle.machine.specs.Ram.{cells, cells1, cells2, cells5}
 use Rattle.machine.specs.Instruction.{Decoded, known, unknown, decode, argument_fault}
 use Rattle.machine.specs.Machine.{Code, Memory, Machine, ram}
 

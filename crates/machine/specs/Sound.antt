@@ -1,11 +1,11 @@
 -- What place A accepts, said as facts: what a step may rely on and leaves again. And what an instruction's effect has to
 -- satisfy, so that a step leaves it.
-use Rattle.std.specs.Prelude.{ℕ, suc, ◌+◌, ◌-◌, ◌*◌, ◌%◌, ◌≤◌, ◌<◌, ◌≡◌, Bool, List, [], ◌∷◌, length, get_or, take}
+use Rattle.std.specs.Prelude.{ℕ, suc, ◌+◌, ◌-◌, ◌*◌, ◌%◌, ◌≤◌, ◌<◌, ◌≡◌, List, [], ◌∷◌, length, get_or, take}
 use Rattle.field.specs.Base.{p}
 use Rattle.tip5.specs.declared.sponge.Sponge.{Sponge}
 use Rattle.machine.specs.Words.{Words}
 use Rattle.machine.specs.Ram.{Cells, held, stored, falls_of}
-use Rattle.machine.specs.Machine.{Code, Memory, Machine, ram}
+use Rattle.machine.specs.Machine.{Code, Machine, ram}
 use Rattle.machine.specs.Effect.{Call, reset, tip5, u32, ram_read, ram_write, JumpChange, stays, pushes, pops, Effect}
 use Rattle.machine.specs.Apply.{pointer_after, sponge_after}
 use Rattle.machine.specs.PlaceA.{longest, opcodes3, arguments4, revision4}

@@ -1,5 +1,5 @@
 -- The instructions that move words of the op stack. w is the top sixteen words, bottom first.
-use Rattle.std.specs.Prelude.{ℕ, ◌-◌, List, [], ◌∷◌, ◌++◌, length, get_or, take, drop, set, ltb}
+use Rattle.std.specs.Prelude.{ℕ, ◌-◌, List, [], ◌∷◌, ◌++◌, length, take, drop, set, ltb}
 use Rattle.machine.specs.Refusal.{empty_secret_input}
 use Rattle.machine.specs.Machine.{st}
 use Rattle.machine.specs.Effect.{Effect, Decision, acts, drawing, puts, unless}

@@ -1,4 +1,5 @@
 // The instructions of arithmetic and of bits.
 #![tactic(auto)]
+
 pub mod arithmetic;
 pub mod bitwise;

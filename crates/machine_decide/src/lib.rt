@@ -1,4 +1,5 @@
 // Place B, and what the instruction decides.
 #![tactic(auto)]
+
 pub mod decide;
 pub mod place_b;

@@ -1,5 +1,6 @@
 // Effects, and the instructions of stack, control, memory, input and output.
 #![tactic(auto)]
+
 pub mod control;
 pub mod effect;
 pub mod input_output;

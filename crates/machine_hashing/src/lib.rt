@@ -1,4 +1,5 @@
 // The hashing instructions, and those that do many in one.
 #![tactic(auto)]
+
 pub mod hashing;
 pub mod many_in_one;

@@ -1,3 +1,4 @@
 // The helper variables behind place A.
 #![tactic(auto)]
+
 pub mod helper_variables;

@@ -1,4 +1,5 @@
 // The table of instructions, and the op stack.
 #![tactic(auto)]
+
 pub mod instruction;
 pub mod op_stack;

@@ -1,4 +1,5 @@
 // The records of a step, as bytes, and how long a record is.
 #![tactic(auto)]
+
 pub mod calls;
 pub mod kinds;

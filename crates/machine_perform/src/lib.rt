@@ -1,5 +1,6 @@
 // Place D, and what an effect makes of the machine.
 #![tactic(auto)]
+
 pub mod answer;
 pub mod limits;
 pub mod perform;

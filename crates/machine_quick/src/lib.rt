@@ -1,3 +1,4 @@
 // A step that changes op stack, pointer and clock only.
 #![tactic(auto)]
+
 pub mod quick;

@@ -1,3 +1,4 @@
 // Rows of the processor table.
 #![tactic(auto)]
+
 pub mod processor_row;

@@ -1,4 +1,5 @@
 // Replay: the call.
 #![tactic(auto)]
+
 pub mod call;
 pub mod place_a;

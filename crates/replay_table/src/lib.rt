@@ -1,4 +1,5 @@
 // The table of written cells, and merging.
 #![tactic(auto)]
+
 pub mod merge;
 pub mod table;

@@ -1,6 +1,6 @@
 -- Tip5: split-and-lookup, the S-box of words 0 to 3.
 use Rattle.std.specs.Prelude.{◌≡◌, refl, List, [], ◌∷◌, map, ℕ, zero, suc, ◌+◌, ◌*◌, ◌-◌, ◌/◌, ◌%◌, ◌^◌}
-use Rattle.field.specs.Base.{p, mul_p}
+use Rattle.field.specs.Base.{mul_p}
 use Rattle.tip5.specs.Tab.{tab}
 
 -- Tip5: L[i] = ((i + 1)^3 - 1) mod 257

@@ -1,5 +1,5 @@
 -- Tip5: the sponge. Rate 10: words 0 to 9 take in and give out; words 10 to 15 are the capacity.
-use Rattle.std.specs.Prelude.{Bool, true, List, ◌++◌, ℕ, take, drop, replicate}
+use Rattle.std.specs.Prelude.{true, List, ◌++◌, ℕ, take, drop, replicate}
 use Rattle.tip5.specs.declared.sponge.Sponge.{Sponge}
 use Rattle.tip5.specs.declared.sponge.Squeezed.{Squeezed}
 use Rattle.tip5.specs.declared.sponge.Domain.{Domain}

@@ -1,5 +1,6 @@
 // Tip5: the permutation of sixteen words, its trace, and the sponge and the hashes that are made of it.
 #![tactic(auto)]
+
 pub mod hash;
 pub mod matrix;
 pub mod permutation;

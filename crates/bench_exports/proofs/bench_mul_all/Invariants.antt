@@ -1,8 +1,6 @@
 use mathlib.Core.Path.{◌≡◌}
 use Prim.Native.Nat.{◌-◌, ◌≤◌}
-use native.Mathlib.Omega.{arith}
-use borrow.Author.Rules.{rules}
-use lib.ListN.{length-set, length}
+use lib.ListN.{length}
 use Rattle.bench_exports.proofs.bench_mul_all.Given as goal
 
 abbrev pub invariant-loop-i : goal.invariant-loop-i

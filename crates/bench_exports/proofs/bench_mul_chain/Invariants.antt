@@ -1,5 +1,4 @@
 use Prim.Native.Nat.{◌-◌, ◌≤◌}
-use borrow.Author.Rules.{rules}
 use Rattle.bench_exports.proofs.bench_mul_chain.Given as goal
 
 abbrev pub invariant-loop-i : goal.invariant-loop-i

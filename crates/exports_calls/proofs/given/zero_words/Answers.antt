@@ -3,7 +3,6 @@ use borrow.Author.Tests.{eq-eqb, ne_eqb}
 use Rattle.machine_isa.specs.Copied.{copied}
 use Rattle.exports_words.proofs.ReportLaws.{wholly}
 use Rattle.exports_calls.specs.GivenCall.{zeroed}
-use borrow.Author.Rules.{rules}
 use Rattle.exports_calls.proofs.given.zero_words.Goals as goal
 
 pub returns-then-v-k : goal.returns-then-v-k

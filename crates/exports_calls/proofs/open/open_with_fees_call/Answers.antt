@@ -2,7 +2,6 @@ use Rattle.machine.specs.FeeTable.{fee_table, priced}
 use Rattle.exports_words.proofs.CallsLaws.{answered}
 use Rattle.exports_calls.proofs.OpenCallLaws.{open_fits-facts, open_called, open_misfits}
 use native.Mathlib.Omega.{arith}
-use borrow.Author.Rules.{rules}
 use Rattle.exports_calls.proofs.open.open_with_fees_call.Goals as goal
 
 pub read_digest-words-requires : goal.read_digest-words-requires

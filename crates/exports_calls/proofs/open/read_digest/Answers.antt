@@ -1,4 +1,3 @@
-use borrow.Author.Rules.{rules}
 use lib.ListN.{replicate}
 use mathlib.Core.Path.{refl}
 use Rattle.exports_words.proofs.ReportLaws.{wholly}

@@ -1,5 +1,4 @@
 use borrow.Author.Tests.{eq-eqb, ne_eqb}
-use borrow.Author.Rules.{rules}
 use Rattle.exports_calls.specs.OpenCall.{opened_registers}
 use Rattle.exports_calls.proofs.open.write_opened.Goals as goal
 

@@ -1,4 +1,3 @@
-use borrow.Author.Rules.{rules}
 use Rattle.exports_calls.proofs.ReplayCallLaws.{replay_misfits, replay_called}
 use Rattle.exports_calls.proofs.replay_call.replay_call.Goals as goal
 

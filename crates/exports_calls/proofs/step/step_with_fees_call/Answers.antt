@@ -2,7 +2,6 @@ use Rattle.machine.specs.FeeTable.{fee_table, priced}
 use Rattle.exports_words.proofs.CallsLaws.{fits-facts, answered}
 use Rattle.exports_calls.proofs.StepCallLaws.{step-called, step_misfits}
 use native.Mathlib.Omega.{arith}
-use borrow.Author.Rules.{rules}
 use Rattle.exports_calls.proofs.step.step_with_fees_call.Goals as goal
 
 pub read_registers-state-requires : goal.read_registers-state-requires

@@ -1,4 +1,3 @@
-use borrow.Author.Rules.{rules}
 use native.Mathlib.Omega.{arith}
 use Rattle.exports_words.proofs.CallsLaws.{answered}
 use Rattle.exports_calls.proofs.ThinCallLaws.{thin-called, thin_misfits}

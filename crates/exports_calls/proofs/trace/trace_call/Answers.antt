@@ -2,7 +2,6 @@ use Rattle.machine.specs.FeeTable.{unpriced}
 use Rattle.exports_words.proofs.CallsLaws.{fits-facts, answered}
 use Rattle.exports_calls.proofs.RunCallLaws.{trace-called, trace_misfits}
 use native.Mathlib.Omega.{arith}
-use borrow.Author.Rules.{rules}
 use Rattle.exports_calls.proofs.trace.trace_call.Goals as goal
 
 pub read_registers-state-requires : goal.read_registers-state-requires

@@ -1,4 +1,3 @@
-use borrow.Author.Rules.{rules}
 use mathlib.Core.Path.{sym, ◌∙◌}
 use Rattle.exports_words.specs.Calls.{fits_of}
 use Rattle.exports_words.proofs.fits.fits.Goals as goal

@@ -1,4 +1,3 @@
-use borrow.Author.Rules.{rules}
 use Rattle.exports_words.specs.Registers.{state_of}
 use Rattle.exports_words.proofs.RegistersLaws.{read-words}
 use Rattle.exports_words.proofs.registers.read_registers.Goals as goal

@@ -1,5 +1,4 @@
 use borrow.Author.Tests.{eq-eqb, ne_eqb, lt-ltb, le-ltb}
-use borrow.Author.Rules.{rules}
 use Rattle.exports_words.specs.Registers.{readable_of}
 use Rattle.exports_words.proofs.registers.readable.Goals as goal
 

@@ -1,5 +1,4 @@
-use borrow.Author.Rules.{rules, length_unmapped}
-use Prim.Native.Nat.{ℕ}
+use borrow.Author.Rules.{rules}
 use native.Mathlib.Omega.{arith}
 use mathlib.Core.Path.{◌≡◌}
 use lib.ListN.{length}

@@ -1,4 +1,3 @@
-use borrow.Author.Rules.{rules}
 use mathlib.Core.Path.{sym, ap, ◌∙◌}
 use Rattle.machine_perform.specs.declared.answer.Answer.{Answer}
 use Rattle.machine_perform.specs.AnswerView.{answer_in}

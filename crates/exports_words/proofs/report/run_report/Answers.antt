@@ -1,4 +1,3 @@
-use borrow.Author.Rules.{rules}
 use mathlib.Core.Path.{sym, ap, ◌∙◌}
 use Rattle.machine_steps.specs.declared.answer.Ending.{Ending}
 use Rattle.machine_steps.specs.RanView.{ending_in}

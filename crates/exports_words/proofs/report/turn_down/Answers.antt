@@ -2,7 +2,6 @@ use borrow.Author.Tests.{eq-eqb, ne_eqb}
 use Rattle.exports_words.specs.Report.{said_of, answer_of, misfit}
 use Prim.Native.Nat.{ℕ}
 use mathlib.Core.Path.{ap, ◌∙◌}
-use borrow.Author.Rules.{rules}
 use Rattle.exports_words.proofs.report.turn_down.Goals as goal
 
 pub returns-then-answer-n : goal.returns-then-answer-n

@@ -1,7 +1,6 @@
 use Rattle.exports_words.specs.Report.{answer_of}
 use Rattle.exports_words.proofs.ReportLaws.{first-words}
 use mathlib.Core.Path.{refl}
-use borrow.Author.Rules.{rules}
 use Rattle.exports_words.proofs.report.write_answer.Goals as goal
 
 pub returns : goal.returns

@@ -1,7 +1,6 @@
 use Rattle.machine.specs.Arithmetic.{add_of}
 use Rattle.machine.proofs.Words.{words_get_d}
 use Prim.Native.Nat.{◌-◌}
-use borrow.Author.Rules.{rules}
 use Rattle.machine_arithmetic.proofs.arithmetic.add.Goals as goal
 
 pub add-requires : goal.add-requires

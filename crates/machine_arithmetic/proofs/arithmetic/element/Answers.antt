@@ -2,7 +2,6 @@ use Rattle.machine.proofs.Words.{words_get_d}
 use Prim.Native.Nat.{◌+◌, ◌-◌}
 use native.Mathlib.Omega.{arith}
 use mathlib.Core.Path.{◌≡◌}
-use borrow.Author.Rules.{rules}
 use Rattle.machine_arithmetic.proofs.arithmetic.element.Goals as goal
 
 pub returns : goal.returns

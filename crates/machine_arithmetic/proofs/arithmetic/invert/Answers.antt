@@ -3,7 +3,6 @@ use borrow.Author.Tests.{eq-eqb, ne_eqb}
 use Rattle.machine.specs.Arithmetic.{invert_of}
 use Rattle.machine.proofs.Words.{words_get_d}
 use Prim.Native.Nat.{◌-◌}
-use borrow.Author.Rules.{rules}
 use Rattle.machine_arithmetic.proofs.arithmetic.invert.Goals as goal
 
 pub inverse_or_zero-requires : goal.inverse_or_zero-requires

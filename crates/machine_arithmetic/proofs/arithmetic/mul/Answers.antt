@@ -1,6 +1,4 @@
 use Rattle.machine.specs.Arithmetic.{mul_of}
-use Prim.Native.Nat.{◌-◌}
-use borrow.Author.Rules.{rules}
 use Rattle.machine_arithmetic.proofs.arithmetic.mul.Goals as goal
 
 pub returns : goal.returns

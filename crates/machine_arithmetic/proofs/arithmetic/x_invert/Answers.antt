@@ -4,7 +4,6 @@ use Rattle.machine.specs.Arithmetic.{x_invert_of}
 use Rattle.machine.specs.Refusal.{refusal_of}
 use Prim.Native.Nat.{◌-◌}
 use mathlib.Core.Path.{◌≡◌, sym, ap, ◌∙◌}
-use borrow.Author.Rules.{rules}
 use Rattle.machine_arithmetic.proofs.arithmetic.x_invert.Goals as goal
 
 pub returns-then-is_zero : goal.returns-then-is_zero

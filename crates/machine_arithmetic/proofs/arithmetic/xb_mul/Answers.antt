@@ -1,6 +1,5 @@
 use Rattle.machine.specs.Arithmetic.{xb_mul_of}
 use Prim.Native.Nat.{◌-◌}
-use borrow.Author.Rules.{rules}
 use Rattle.machine_arithmetic.proofs.arithmetic.xb_mul.Goals as goal
 
 pub returns : goal.returns

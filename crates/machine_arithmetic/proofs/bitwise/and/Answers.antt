@@ -1,6 +1,5 @@
 use Prim.Native.Nat.{◌^◌}
 use borrow.Author.Tests.{le-ltb}
-use borrow.Author.Rules.{rules}
 use Rattle.machine.specs.Bitwise.{and_of}
 use Rattle.machine_arithmetic.proofs.Bits.{low, both_digits, within}
 use Rattle.machine_arithmetic.proofs.bitwise.and.Goals as goal

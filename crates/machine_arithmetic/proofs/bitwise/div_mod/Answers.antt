@@ -1,6 +1,5 @@
 use Prim.Native.Nat.{◌^◌}
 use borrow.Author.Tests.{eq-eqb, ne_eqb, le-ltb}
-use borrow.Author.Rules.{rules}
 use Rattle.machine.specs.Refusal.{refusal_of}
 use Rattle.machine.specs.Bitwise.{div_mod_of}
 use Rattle.machine_arithmetic.proofs.Bits.{within}

@@ -1,6 +1,5 @@
 use Prim.Native.Nat.{◌^◌}
 use borrow.Author.Tests.{lt-ltb, le-ltb}
-use borrow.Author.Rules.{rules}
 use Rattle.machine.specs.Bitwise.{lt_of}
 use Rattle.machine_arithmetic.proofs.Bits.{within}
 use Rattle.machine_arithmetic.proofs.bitwise.lt.Goals as goal

@@ -1,4 +1,3 @@
-use borrow.Author.Rules.{rules}
 use Rattle.machine.specs.Refusal.{refusal_of}
 use Rattle.machine_arithmetic.proofs.bitwise.not_u32.Goals as goal
 

@@ -1,6 +1,4 @@
-use native.Mathlib.Omega.{arith}
 use borrow.Author.Rules.{rules}
-use lib.Count.{ones-le}
 use Rattle.machine_arithmetic.proofs.Bits.{ones_digits}
 use Rattle.machine_arithmetic.proofs.bitwise.ones.Goals as goal
 

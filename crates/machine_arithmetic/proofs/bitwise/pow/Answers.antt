@@ -1,6 +1,5 @@
 use Prim.Native.Nat.{◌^◌}
 use borrow.Author.Tests.{le-ltb}
-use borrow.Author.Rules.{rules}
 use Rattle.machine.specs.Bitwise.{pow_of}
 use Rattle.machine_arithmetic.proofs.Bits.{within}
 use Rattle.machine_arithmetic.proofs.bitwise.pow.Goals as goal

@@ -1,4 +1,3 @@
-use borrow.Author.Rules.{rules}
 use Rattle.machine_effects.specs.EffectView.{u32s_of}
 use Rattle.machine_arithmetic.proofs.bitwise.put1_u32.Goals as goal
 

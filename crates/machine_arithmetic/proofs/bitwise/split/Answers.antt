@@ -1,4 +1,3 @@
-use borrow.Author.Rules.{rules}
 use Rattle.machine.specs.Bitwise.{split_of}
 use Rattle.machine_effects.specs.EffectView.{u32s_of}
 use Rattle.machine_arithmetic.proofs.bitwise.split.Goals as goal

@@ -1,6 +1,5 @@
 use Prim.Native.Nat.{◌^◌}
 use borrow.Author.Tests.{le-ltb}
-use borrow.Author.Rules.{rules}
 use Rattle.machine.specs.Bitwise.{xor_of}
 use Rattle.machine_arithmetic.proofs.Bits.{low, either_digits, within}
 use Rattle.machine_arithmetic.proofs.bitwise.xor.Goals as goal

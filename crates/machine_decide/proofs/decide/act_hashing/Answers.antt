@@ -1,5 +1,4 @@
 -- `machine_decide::decide::act_hashing` meets its contract: each arm is its instruction, and there is no rest.
-use borrow.Author.Rules.{rules}
 use mathlib.Core.Path.{sym, ◌∙◌}
 use mathlib.Core.Bool.{true≢false}
 use lib.Dec.{lit≤}

@@ -1,4 +1,3 @@
-use borrow.Author.Rules.{rules}
 use Rattle.machine_decide.proofs.DecideLaws.{hash-reliable, hash-shows}
 use Rattle.machine_decide.proofs.decide.hashing.Goals as goal
 

@@ -1,6 +1,4 @@
-use borrow.Author.Rules.{rules}
-use mathlib.Core.Path.{sym}
-use borrow.Author.Tests.{eq-eqb, ne_eqb}
+use borrow.Author.Tests.{ne_eqb}
 use Rattle.machine_decide.specs.DecideView.{last_of}
 use Rattle.machine_decide.proofs.decide.last.Goals as goal
 

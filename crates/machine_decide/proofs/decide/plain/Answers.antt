@@ -1,4 +1,3 @@
-use borrow.Author.Rules.{rules}
 use Rattle.machine_decide.proofs.DecideLaws.{plain-reliable, plain-shows}
 use Rattle.machine_decide.proofs.decide.plain.Goals as goal
 

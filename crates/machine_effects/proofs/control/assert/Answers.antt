@@ -1,5 +1,4 @@
 use borrow.Author.Tests.{eq-eqb, ne_eqb}
-use borrow.Author.Rules.{rules}
 use Rattle.machine.specs.Refusal.{refusal_of}
 use Rattle.machine.specs.Control.{assert_of}
 use Rattle.machine_effects.proofs.control.assert.Goals as goal

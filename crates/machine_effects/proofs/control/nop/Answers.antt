@@ -1,4 +1,3 @@
-use borrow.Author.Rules.{rules}
 use Rattle.machine.specs.Control.{nop_of}
 use Rattle.machine_effects.proofs.control.nop.Goals as goal
 

@@ -1,5 +1,4 @@
 use borrow.Author.Tests.{lt-ltb, le-ltb}
-use borrow.Author.Rules.{rules}
 use Rattle.machine.specs.Refusal.{refusal_of}
 use Rattle.machine.specs.Control.{recurse_of}
 use Rattle.machine_effects.proofs.control.recurse.Goals as goal

@@ -1,5 +1,4 @@
 use borrow.Author.Tests.{eq-eqb, ne_eqb}
-use borrow.Author.Rules.{rules}
 use Rattle.machine.specs.Control.{recurse_or_return_of}
 use Rattle.machine_effects.proofs.control.recurse_or_return.Goals as goal
 

@@ -1,5 +1,4 @@
 use borrow.Author.Tests.{lt-ltb, le-ltb}
-use borrow.Author.Rules.{rules}
 use Rattle.machine.specs.Refusal.{refusal_of}
 use Rattle.machine.specs.Control.{return_of}
 use Rattle.machine_effects.proofs.control.return_from_call.Goals as goal

@@ -1,7 +1,6 @@
 use Prim.Native.Nat.{◌+◌}
 use native.Mathlib.Omega.{arith}
 use borrow.Author.Tests.{eq-eqb, ne_eqb, lt-ltb, le-ltb}
-use borrow.Author.Rules.{rules}
 use lib.ListN.{get_or}
 use Rattle.machine.specs.Refusal.{refusal_of}
 use Rattle.machine.specs.Control.{skiz_of}

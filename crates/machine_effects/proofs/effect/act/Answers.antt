@@ -1,4 +1,3 @@
-use Prim.Native.Nat.{◌-◌}
 use mathlib.Core.Path.{refl}
 use Rattle.machine_effects.specs.EffectView.{decision_of}
 use Rattle.machine_effects.proofs.effect.act.Goals as goal

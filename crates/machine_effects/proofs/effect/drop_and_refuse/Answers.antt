@@ -1,7 +1,5 @@
 use Rattle.machine_effects.specs.EffectView.{decision_of}
-use Prim.Native.Nat.{◌-◌}
 use mathlib.Core.Path.{refl}
-use borrow.Author.Rules.{rules}
 use Rattle.machine_effects.proofs.effect.drop_and_refuse.Goals as goal
 
 pub returns : goal.returns

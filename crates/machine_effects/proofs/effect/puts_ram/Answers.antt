@@ -1,7 +1,6 @@
 use Rattle.machine_effects.specs.EffectView.{u32s_of}
 use Rattle.machine_effects.specs.EffectView.{effect_of, accesses_from}
 use Prim.Native.Nat.{◌-◌}
-use borrow.Author.Rules.{rules}
 use Rattle.machine_effects.proofs.effect.puts_ram.Goals as goal
 
 pub returns : goal.returns

@@ -1,7 +1,6 @@
 use mathlib.Core.List.{append-nil}
 use Rattle.machine_effects.specs.EffectView.{effect_of, accesses_from}
 use Prim.Native.Nat.{◌-◌}
-use borrow.Author.Rules.{rules}
 use Rattle.machine_effects.proofs.effect.puts_u32.Goals as goal
 
 pub returns : goal.returns

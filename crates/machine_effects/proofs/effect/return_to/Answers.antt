@@ -1,4 +1,3 @@
-use borrow.Author.Rules.{rules}
 use Rattle.machine_effects.specs.EffectView.{effect_of, u32s_of, accesses_from}
 use Rattle.machine_effects.proofs.effect.return_to.Goals as goal
 

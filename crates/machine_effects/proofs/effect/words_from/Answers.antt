@@ -1,6 +1,5 @@
 use Prim.Native.Nat.{◌-◌}
 use native.Mathlib.Omega.{arith}
-use borrow.Author.Rules.{rules}
 use lib.ListN.{length}
 use Rattle.machine_effects.proofs.Window.{front-copied}
 use Rattle.machine_effects.proofs.effect.words_from.Goals as goal

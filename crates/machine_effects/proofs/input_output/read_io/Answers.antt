@@ -1,5 +1,4 @@
 use borrow.Author.Tests.{lt-ltb, le-ltb}
-use borrow.Author.Rules.{rules}
 use lib.ListN.{length-drop}
 use Rattle.machine.specs.Refusal.{refusal_of}
 use Rattle.machine.specs.InputOutput.{read_io_of}

@@ -1,5 +1,4 @@
 use mathlib.Core.Path.{ap}
-use borrow.Author.Rules.{rules}
 use Rattle.machine.specs.Effect.{acts, writing}
 use Rattle.machine.specs.InputOutput.{write_io_of}
 use Rattle.machine_effects.proofs.Window.{top_five}

@@ -1,8 +1,7 @@
-use borrow.Author.Rules.{rules}
 use Prim.Native.Nat.{◌-◌}
 use Rattle.machine.specs.Ram.{cells}
 use Rattle.machine.specs.Memory.{down}
-use Rattle.machine_effects.proofs.MemoryView.{Reading, reading_start, reading_turn, reading_end}
+use Rattle.machine_effects.proofs.MemoryView.{Reading}
 use Rattle.machine_effects.proofs.memory.read_down.Given as goal
 
 abbrev pub invariant-loop-i : goal.invariant-loop-i

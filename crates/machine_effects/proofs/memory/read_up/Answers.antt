@@ -1,7 +1,6 @@
 use borrow.Author.Rules.{rules}
 use Prim.Native.Nat.{◌-◌}
-use Rattle.machine.specs.Ram.{cells}
-use Rattle.machine_effects.proofs.MemoryView.{Reading, reading_start, reading_turn, reading_end}
+use Rattle.machine_effects.proofs.MemoryView.{reading_start, reading_turn, reading_end}
 use Rattle.machine_effects.proofs.memory.read_up.Goals as goal
 
 pub loop-i-init : goal.loop-i-init

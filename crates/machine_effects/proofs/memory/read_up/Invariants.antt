@@ -1,7 +1,6 @@
-use borrow.Author.Rules.{rules}
 use Prim.Native.Nat.{◌-◌}
 use Rattle.machine.specs.Ram.{cells}
-use Rattle.machine_effects.proofs.MemoryView.{Reading, reading_start, reading_turn, reading_end}
+use Rattle.machine_effects.proofs.MemoryView.{Reading}
 use Rattle.machine_effects.proofs.memory.read_up.Given as goal
 
 abbrev pub invariant-loop-i : goal.invariant-loop-i

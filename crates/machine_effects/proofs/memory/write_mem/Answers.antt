@@ -1,4 +1,3 @@
-use borrow.Author.Rules.{rules}
 use Rattle.machine_effects.specs.EffectView.{accesses_from}
 use Rattle.machine.specs.Memory.{write_mem_of}
 use Rattle.machine.proofs.Words.{words_get_d}

@@ -1,14 +1,11 @@
-use borrow.Author.Rules.{rules}
-use mathlib.Core.Path.{◌≡◌, ap, ◌∙◌}
+use mathlib.Core.Path.{◌≡◌}
 use mathlib.Core.List.{◌++◌}
-use Prim.Native.Nat.{ℕ, ◌+◌, ◌*◌, ◌-◌, ◌≤◌}
-use native.Mathlib.Omega.{arith}
-use lib.ListN.{length, length-set}
+use Prim.Native.Nat.{◌+◌, ◌*◌, ◌-◌, ◌≤◌}
+use lib.ListN.{length}
 use Rattle.field.specs.Base.{add_p}
-use Rattle.machine.specs.Effect.{ram_write}
 use Rattle.machine_effects.specs.EffectView.{writes_from}
 use Rattle.machine.specs.Memory.{writes_up}
-use Rattle.machine_effects.proofs.MemoryView.{accesses_turn, writes_up_lem, writes-none, done, start, by_next, by_first}
+use Rattle.machine_effects.proofs.MemoryView.{start}
 use Rattle.machine_effects.proofs.memory.writes.Given as goal
 
 abbrev pub invariant-loop-i : goal.invariant-loop-i

@@ -1,4 +1,3 @@
-use borrow.Author.Rules.{rules}
 use Rattle.machine.specs.Stack.{push_of}
 use Rattle.machine_effects.proofs.stack.push.Goals as goal
 

@@ -1,4 +1,3 @@
-use borrow.Author.Rules.{rules}
 use Rattle.machine.specs.Stack.{swap_of, swapped}
 use Rattle.machine_effects.proofs.stack.swap.Goals as goal
 

@@ -1,4 +1,3 @@
-use borrow.Author.Rules.{rules}
 use mathlib.Core.Path.{refl}
 use Rattle.machine_fees.proofs.FeeLaws.{slices-fine, fees-number, fees-table, fees-none}
 use Rattle.machine_fees.proofs.fee_table.check_fees.Goals as goal

@@ -1,4 +1,3 @@
-use borrow.Author.Rules.{rules}
 use Rattle.machine.specs.FeeTable.{table1}
 use Rattle.machine_fees.proofs.fee_table.check_slices.Goals as goal
 

@@ -1,4 +1,3 @@
-use borrow.Author.Rules.{rules}
 use mathlib.Core.Path.{refl}
 use Rattle.machine_fees.proofs.FeeLaws.{rows_is, table-rows, table-opcodes}
 use Rattle.machine_fees.proofs.fee_table.check_table.Goals as goal

@@ -1,11 +1,7 @@
-use borrow.Author.Rules.{rules}
 use native.Mathlib.Omega.{arith}
 use mathlib.Core.Path.{refl}
-use mathlib.Core.List.{[]}
-use Prim.Native.Nat.{◌-◌, ◌≤◌}
-use lib.ListN.{length}
-use Rattle.machine.specs.FeeTable.{fee_table}
-use Rattle.machine_fees.proofs.FeeLaws.{Counted, count_none, count_in, count_out, count-all}
+use Prim.Native.Nat.{◌-◌}
+use Rattle.machine_fees.proofs.FeeLaws.{count_none, count_in, count_out, count-all}
 use Rattle.machine_fees.proofs.fee_table.find_row.Goals as goal
 
 pub loop-k-init : goal.loop-k-init

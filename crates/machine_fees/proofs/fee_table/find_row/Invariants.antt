@@ -1,12 +1,8 @@
 -- `machine_fees::fee_table::find_row` meets its contract: count and last row of the rows so far.
-use borrow.Author.Rules.{rules}
-use native.Mathlib.Omega.{arith}
-use mathlib.Core.Path.{refl}
-use mathlib.Core.List.{[]}
 use Prim.Native.Nat.{◌-◌, ◌≤◌}
 use lib.ListN.{length}
 use Rattle.machine.specs.FeeTable.{fee_table}
-use Rattle.machine_fees.proofs.FeeLaws.{Counted, count_none, count_in, count_out, count-all}
+use Rattle.machine_fees.proofs.FeeLaws.{Counted}
 use Rattle.machine_fees.proofs.fee_table.find_row.Given as goal
 
 abbrev pub invariant-loop-k : goal.invariant-loop-k

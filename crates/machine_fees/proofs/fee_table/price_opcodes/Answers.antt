@@ -1,9 +1,7 @@
-use borrow.Author.Rules.{rules}
 use native.Mathlib.Omega.{arith}
 use mathlib.Core.Path.{sym, ◌∙◌}
-use Prim.Native.Nat.{◌-◌, ◌≤◌}
-use Rattle.machine.specs.FeeTable.{fee_table}
-use Rattle.machine_fees.proofs.FeeLaws.{Passed, pass_none, pass-known, pass_unknown, pass_all}
+use Prim.Native.Nat.{◌-◌}
+use Rattle.machine_fees.proofs.FeeLaws.{pass_none, pass-known, pass_unknown, pass_all}
 use Rattle.machine_fees.proofs.fee_table.price_opcodes.Goals as goal
 
 pub loop-o-init : goal.loop-o-init

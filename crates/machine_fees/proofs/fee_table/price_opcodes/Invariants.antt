@@ -1,10 +1,7 @@
 -- `machine_fees::fee_table::price_opcodes` meets its contract: what is found and priced of the opcodes so far.
-use borrow.Author.Rules.{rules}
-use native.Mathlib.Omega.{arith}
-use mathlib.Core.Path.{sym, ◌∙◌}
 use Prim.Native.Nat.{◌-◌, ◌≤◌}
 use Rattle.machine.specs.FeeTable.{fee_table}
-use Rattle.machine_fees.proofs.FeeLaws.{Passed, pass_none, pass-known, pass_unknown, pass_all}
+use Rattle.machine_fees.proofs.FeeLaws.{Passed}
 use Rattle.machine_fees.proofs.fee_table.price_opcodes.Given as goal
 
 abbrev pub invariant-loop-o : goal.invariant-loop-o

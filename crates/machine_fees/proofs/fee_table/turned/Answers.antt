@@ -1,9 +1,6 @@
-use borrow.Author.Rules.{rules}
 use native.Mathlib.Omega.{arith}
-use mathlib.Core.Path.{◌≡◌, refl}
-use mathlib.Core.List.{[]}
-use Prim.Native.Nat.{◌-◌, ◌≤◌}
-use lib.ListN.{length}
+use mathlib.Core.Path.{refl}
+use Prim.Native.Nat.{◌-◌}
 use Rattle.machine.specs.FeeTable.{fee_table, turned64}
 use Rattle.machine_fees.proofs.FeeLaws.{turned_more, turned-stop, scan_end}
 use Rattle.machine_fees.proofs.fee_table.turned.Goals as goal

@@ -1,12 +1,8 @@
 -- `machine_fees::fee_table::turned` meets its contract: no such row so far, or the loop has stopped.
-use borrow.Author.Rules.{rules}
-use native.Mathlib.Omega.{arith}
-use mathlib.Core.Path.{◌≡◌, refl}
-use mathlib.Core.List.{[]}
+use mathlib.Core.Path.{◌≡◌}
 use Prim.Native.Nat.{◌-◌, ◌≤◌}
 use lib.ListN.{length}
 use Rattle.machine.specs.FeeTable.{fee_table, turned64}
-use Rattle.machine_fees.proofs.FeeLaws.{turned_more, turned-stop, scan_end}
 use Rattle.machine_fees.proofs.fee_table.turned.Given as goal
 
 abbrev pub invariant-loop-k : goal.invariant-loop-k

@@ -1,8 +1,6 @@
-use borrow.Author.Rules.{rules}
 use native.Mathlib.Omega.{arith}
-use mathlib.Core.Path.{◌≡◌, refl}
-use Prim.Native.Nat.{◌-◌, ◌≤◌}
-use lib.ListN.{length}
+use mathlib.Core.Path.{refl}
+use Prim.Native.Nat.{◌-◌}
 use Rattle.machine.specs.FeeTable.{wide1}
 use Rattle.machine_fees.proofs.FeeLaws.{wide_more, wide_stop, scan_end}
 use Rattle.machine_fees.proofs.fee_table.wide.Goals as goal

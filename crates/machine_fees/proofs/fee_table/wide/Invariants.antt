@@ -1,11 +1,8 @@
 -- `machine_fees::fee_table::wide` meets its contract: no wide fee so far, or the loop has stopped.
-use borrow.Author.Rules.{rules}
-use native.Mathlib.Omega.{arith}
-use mathlib.Core.Path.{◌≡◌, refl}
+use mathlib.Core.Path.{◌≡◌}
 use Prim.Native.Nat.{◌-◌, ◌≤◌}
 use lib.ListN.{length}
 use Rattle.machine.specs.FeeTable.{wide1}
-use Rattle.machine_fees.proofs.FeeLaws.{wide_more, wide_stop, scan_end}
 use Rattle.machine_fees.proofs.fee_table.wide.Given as goal
 
 abbrev pub invariant-loop-k : goal.invariant-loop-k

@@ -1,11 +1,6 @@
-use mathlib.Core.Path.{◌≡◌, refl, sym, ◌∙◌}
-use native.Mathlib.Omega.{arith}
-use borrow.Author.Rules.{rules}
-use borrow.Author.Tests.{eq-eqb, ne_eqb}
+use mathlib.Core.Path.{◌≡◌}
 use Prim.Native.Nat.{◌-◌, ◌≤◌}
-use Rattle.machine.specs.Refusal.{refusal_of}
 use Rattle.machine.specs.Hashing.{assert_from, assert_vector_of}
-use Rattle.machine_hashing.proofs.HashedLaws.{assert-refused, assert-more, assert-all}
 use Rattle.machine_hashing.proofs.hashing.assert_vector.Given as goal
 
 abbrev pub invariant-loop-i : goal.invariant-loop-i

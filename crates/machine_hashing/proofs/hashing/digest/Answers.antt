@@ -1,5 +1,4 @@
 use Rattle.machine.specs.Hashing.{reversed}
-use borrow.Author.Rules.{rules}
 use Rattle.machine_hashing.proofs.hashing.digest.Goals as goal
 
 pub returns : goal.returns

@@ -1,5 +1,4 @@
 use Rattle.machine.specs.Hashing.{from_top, hashed, hash_of}
-use borrow.Author.Rules.{rules}
 use Rattle.machine_hashing.proofs.hashing.hash.Goals as goal
 
 pub returns : goal.returns

@@ -1,6 +1,5 @@
 use Rattle.machine_effects.specs.EffectView.{accesses_from}
 use Rattle.machine.specs.Hashing.{reversed}
-use borrow.Author.Rules.{rules}
 use Rattle.machine_hashing.proofs.hashing.put_read.Goals as goal
 
 pub returns : goal.returns

@@ -1,6 +1,5 @@
 use mathlib.Core.Path.{refl}
 use Rattle.machine.specs.Hashing.{reversed}
-use borrow.Author.Rules.{rules}
 use Rattle.machine_hashing.proofs.hashing.rate.Goals as goal
 
 pub returns : goal.returns

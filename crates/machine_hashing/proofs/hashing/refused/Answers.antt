@@ -1,5 +1,4 @@
 use Rattle.machine_hashing.proofs.HashedLaws.{hashed-refuses}
-use borrow.Author.Rules.{rules}
 use Rattle.machine_hashing.proofs.hashing.refused.Goals as goal
 
 pub returns : goal.returns

@@ -1,6 +1,5 @@
 use Rattle.machine.specs.Refusal.{refusal_of}
 use Rattle.machine.specs.Hashing.{from_top, absorbed, sponge_absorb_of}
-use borrow.Author.Rules.{rules}
 use Rattle.machine_hashing.proofs.hashing.sponge_absorb.Goals as goal
 
 pub returns-then-sponge : goal.returns-then-sponge

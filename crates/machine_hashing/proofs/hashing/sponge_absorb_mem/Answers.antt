@@ -3,7 +3,6 @@ use Rattle.machine.specs.Refusal.{refusal_of}
 use Rattle.machine.specs.Hashing.{absorbed_mem, sponge_absorb_mem_of}
 use Rattle.machine_hashing.proofs.HashedLaws.{reversed-front}
 use native.Mathlib.Omega.{arith}
-use borrow.Author.Rules.{rules}
 use Rattle.machine_hashing.proofs.hashing.sponge_absorb_mem.Goals as goal
 
 pub returns-then-sponge : goal.returns-then-sponge

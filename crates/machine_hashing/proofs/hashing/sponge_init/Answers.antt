@@ -1,6 +1,5 @@
 use Rattle.machine.specs.Hashing.{sponge_init_of}
 use Rattle.machine_hashing.proofs.HashedLaws.{hashed-acts}
-use borrow.Author.Rules.{rules}
 use Rattle.machine_hashing.proofs.hashing.sponge_init.Goals as goal
 
 pub returns : goal.returns

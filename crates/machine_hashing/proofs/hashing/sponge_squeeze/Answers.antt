@@ -1,6 +1,5 @@
 use Rattle.machine.specs.Refusal.{refusal_of}
 use Rattle.machine.specs.Hashing.{squeezed, sponge_squeeze_of}
-use borrow.Author.Rules.{rules}
 use Rattle.machine_hashing.proofs.hashing.sponge_squeeze.Goals as goal
 
 pub returns-then-sponge : goal.returns-then-sponge

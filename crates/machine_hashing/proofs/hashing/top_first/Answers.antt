@@ -1,6 +1,5 @@
 use mathlib.Core.Path.{refl}
 use Rattle.machine.specs.Hashing.{from_top}
-use borrow.Author.Rules.{rules}
 use Rattle.machine_hashing.proofs.hashing.top_first.Goals as goal
 
 pub returns : goal.returns

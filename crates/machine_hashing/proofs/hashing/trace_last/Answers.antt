@@ -1,7 +1,6 @@
 use Rattle.machine_effects.specs.EffectView.{effect_of, decision_of}
 use Rattle.machine_hashing.specs.HashedView.{hashed_of}
 use Rattle.machine_hashing.proofs.HashedLaws.{last_by}
-use borrow.Author.Rules.{rules}
 use Rattle.machine_hashing.proofs.hashing.trace_last.Goals as goal
 
 pub returns : goal.returns

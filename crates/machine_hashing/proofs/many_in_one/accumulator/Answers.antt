@@ -1,6 +1,5 @@
 use mathlib.Core.Path.{refl}
 use Rattle.machine.proofs.Words.{words_get_d}
-use borrow.Author.Rules.{rules}
 use Rattle.machine_hashing.proofs.many_in_one.accumulator.Goals as goal
 
 pub returns : goal.returns

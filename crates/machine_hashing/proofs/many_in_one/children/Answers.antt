@@ -1,6 +1,5 @@
 use borrow.Author.Tests.{eq-eqb, ne_eqb}
 use Rattle.machine.specs.ManyInOne.{siblings}
-use borrow.Author.Rules.{rules}
 use Rattle.machine_hashing.proofs.many_in_one.children.Goals as goal
 
 pub returns-then-index-eq0 : goal.returns-then-index-eq0

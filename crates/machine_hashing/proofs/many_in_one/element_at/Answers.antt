@@ -1,4 +1,3 @@
-use borrow.Author.Rules.{rules}
 use Rattle.machine_hashing.proofs.many_in_one.element_at.Goals as goal
 
 pub returns : goal.returns

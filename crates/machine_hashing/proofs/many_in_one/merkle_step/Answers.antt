@@ -4,7 +4,6 @@ use lib.ListN.{length-drop}
 use Rattle.machine.specs.Refusal.{refusal_of}
 use Rattle.machine.specs.ManyInOne.{merkle_step_of}
 use Rattle.machine_arithmetic.proofs.Bits.{within}
-use borrow.Author.Rules.{rules}
 use Rattle.machine_hashing.proofs.many_in_one.merkle_step.Goals as goal
 
 pub returns-then-i-gt-U32_MAX : goal.returns-then-i-gt-U32_MAX

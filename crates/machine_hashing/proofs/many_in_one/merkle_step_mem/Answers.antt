@@ -4,7 +4,6 @@ use borrow.Author.Tests.{le-ltb}
 use Rattle.machine.specs.Refusal.{refusal_of}
 use Rattle.machine.specs.ManyInOne.{merkle_stepped_mem, merkle_step_mem_of}
 use Rattle.machine_arithmetic.proofs.Bits.{within}
-use borrow.Author.Rules.{rules}
 use Rattle.machine_hashing.proofs.many_in_one.merkle_step_mem.Goals as goal
 
 pub returns-then-i-gt-U32_MAX : goal.returns-then-i-gt-U32_MAX

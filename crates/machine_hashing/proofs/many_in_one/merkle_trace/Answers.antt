@@ -1,5 +1,4 @@
 use Rattle.machine.specs.Hashing.{from_top}
-use borrow.Author.Rules.{rules}
 use Rattle.machine_hashing.proofs.many_in_one.merkle_trace.Goals as goal
 
 pub returns : goal.returns

@@ -1,5 +1,4 @@
 use Rattle.machine.specs.Hashing.{reversed}
-use borrow.Author.Rules.{rules}
 use Rattle.machine_hashing.proofs.many_in_one.parent_words.Goals as goal
 
 pub returns : goal.returns

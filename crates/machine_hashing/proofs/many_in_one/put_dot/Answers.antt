@@ -1,5 +1,4 @@
 use Rattle.machine_hashing.proofs.HashedLaws.{no_writes}
-use borrow.Author.Rules.{rules}
 use Rattle.machine_hashing.proofs.many_in_one.put_dot.Goals as goal
 
 pub returns : goal.returns

@@ -5,7 +5,6 @@ use Rattle.machine.specs.Effect.{acts, drawing, u32 as called}
 use Rattle.machine_effects.specs.EffectView.{reads_from}
 use Rattle.machine_hashing.proofs.HashedLaws.{no_writes}
 use Rattle.machine_effects.specs.EffectView.{effect_of, u32s_of}
-use borrow.Author.Rules.{rules}
 use Rattle.machine_hashing.proofs.many_in_one.put_step.Goals as goal
 
 pub returns : goal.returns

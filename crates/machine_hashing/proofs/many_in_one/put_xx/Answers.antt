@@ -1,5 +1,4 @@
 use Rattle.machine_effects.specs.EffectView.{accesses_from}
-use borrow.Author.Rules.{rules}
 use Rattle.machine_hashing.proofs.many_in_one.put_xx.Goals as goal
 
 pub returns : goal.returns

@@ -1,6 +1,5 @@
 use Rattle.machine_effects.specs.EffectView.{accesses_from}
 use Rattle.machine.specs.ManyInOne.{merkle_stepped}
-use borrow.Author.Rules.{rules}
 use Rattle.machine_hashing.proofs.many_in_one.stepped.Goals as goal
 
 pub returns : goal.returns

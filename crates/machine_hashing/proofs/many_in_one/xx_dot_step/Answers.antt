@@ -1,7 +1,6 @@
 use Rattle.field.proofs.ExtensionRing.{mul_x-words}
 use Rattle.machine.proofs.Words.{words_get_d}
 use Rattle.machine.specs.ManyInOne.{xx_dot_step_of}
-use borrow.Author.Rules.{rules}
 use Rattle.machine_hashing.proofs.many_in_one.xx_dot_step.Goals as goal
 
 pub element_at-x-requires : goal.element_at-x-requires

@@ -1,4 +1,3 @@
-use borrow.Author.Rules.{rules}
 use Rattle.machine.proofs.Words.{words_get_d}
 use Rattle.machine_helpers.proofs.helper_variables.eq.Goals as goal
 

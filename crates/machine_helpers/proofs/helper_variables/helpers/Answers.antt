@@ -1,6 +1,5 @@
 use mathlib.Core.Path.{refl, sym}
 use Rattle.machine.proofs.OpStack.{top-words}
-use borrow.Author.Rules.{rules}
 use Rattle.machine_helpers.proofs.helper_variables.helpers.Goals as goal
 
 pub helpers_of-requires : goal.helpers_of-requires

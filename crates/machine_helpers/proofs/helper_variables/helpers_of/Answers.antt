@@ -1,5 +1,4 @@
 use Rattle.machine_helpers.proofs.HelpersLaws.{slot_helpers, outside_helpers}
-use borrow.Author.Rules.{rules}
 use Rattle.machine_helpers.proofs.helper_variables.helpers_of.Goals as goal
 
 pub of_slot-requires : goal.of_slot-requires

@@ -1,4 +1,3 @@
-use borrow.Author.Rules.{rules}
 use Rattle.machine_helpers.proofs.helper_variables.inverse_of_difference.Goals as goal
 
 pub returns : goal.returns

@@ -1,4 +1,3 @@
-use borrow.Author.Rules.{rules}
 use native.Mathlib.Omega.{arith}
 use Rattle.machine.proofs.Words.{words_get_d}
 use Rattle.machine_helpers.proofs.HelpersLaws.{up_front}

@@ -1,4 +1,3 @@
-use borrow.Author.Rules.{rules}
 use borrow.Author.Tests.{lt-ltb, le-ltb}
 use Rattle.machine.specs.HelperVariables.{next_opcode}
 use Rattle.machine_helpers.proofs.helper_variables.next_opcode.Goals as goal

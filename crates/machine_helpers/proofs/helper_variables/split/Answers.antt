@@ -1,4 +1,3 @@
-use borrow.Author.Rules.{rules}
 use borrow.Author.Tests.{eq-eqb, ne_eqb}
 use Rattle.machine.specs.HelperVariables.{split_helper}
 use Rattle.machine_helpers.proofs.helper_variables.split.Goals as goal

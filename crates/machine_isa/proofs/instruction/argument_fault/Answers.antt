@@ -1,4 +1,3 @@
-use borrow.Author.Rules.{rules}
 use mathlib.Core.Path.{sym, ◌∙◌}
 use Rattle.machine.specs.Instruction.{decode}
 use borrow.Author.Tests.{eq-eqb, ne_eqb, lt-ltb, le-ltb}

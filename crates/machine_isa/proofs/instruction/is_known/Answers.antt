@@ -1,4 +1,3 @@
-use borrow.Author.Rules.{rules}
 use Rattle.machine.specs.Instruction.{decode}
 use Rattle.machine_isa.proofs.TableLaws.{known_by}
 use Rattle.machine_isa.proofs.instruction.is_known.Goals as goal

@@ -1,5 +1,4 @@
 -- `machine_isa::op_stack::apply` meets its contract: words put, then what is freed cleared.
-use borrow.Author.Rules.{rules}
 use mathlib.Core.Path.{◌≡◌, ◌∙◌}
 use Prim.Native.Nat.{◌+◌, ◌-◌}
 use native.Mathlib.Omega.{arith}

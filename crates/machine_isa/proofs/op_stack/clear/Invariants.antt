@@ -1,11 +1,7 @@
-use borrow.Author.Rules.{rules}
-use mathlib.Core.Path.{◌≡◌, refl}
+use mathlib.Core.Path.{◌≡◌}
 use Prim.Native.Nat.{◌-◌, ◌≤◌}
-use native.Mathlib.Omega.{arith}
-use lib.ListN.{length, length-set, replicate}
-use lib.Seq.{paste, paste-zero}
-use Rattle.machine_isa.specs.Copied.{copied}
-use Rattle.machine_isa.proofs.Copies.{clear_more, copy_end}
+use lib.ListN.{length, replicate}
+use lib.Seq.{paste}
 use Rattle.machine_isa.proofs.op_stack.clear.Given as goal
 
 abbrev pub invariant-loop-i : goal.invariant-loop-i

@@ -1,9 +1,7 @@
-use borrow.Author.Rules.{rules}
 use mathlib.Core.Path.{◌≡◌, refl}
-use Prim.Native.Nat.{◌*◌, ◌-◌, ◌≤◌}
+use Prim.Native.Nat.{◌-◌}
 use native.Mathlib.Omega.{arith}
-use lib.ListN.{length}
-use Rattle.machine_log.specs.Logged.{WroteAny, accesses}
+use Rattle.machine_log.specs.Logged.{accesses}
 use Rattle.machine_log.proofs.Logged.{any_none, any-more, accesses-more}
 use Rattle.machine_log.proofs.calls.log_accesses.Goals as goal
 

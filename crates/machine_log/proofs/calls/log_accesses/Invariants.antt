@@ -1,10 +1,7 @@
-use borrow.Author.Rules.{rules}
-use mathlib.Core.Path.{◌≡◌, refl}
+use mathlib.Core.Path.{◌≡◌}
 use Prim.Native.Nat.{◌*◌, ◌-◌, ◌≤◌}
-use native.Mathlib.Omega.{arith}
 use lib.ListN.{length}
 use Rattle.machine_log.specs.Logged.{WroteAny, accesses}
-use Rattle.machine_log.proofs.Logged.{any_none, any-more, accesses-more}
 use Rattle.machine_log.proofs.calls.log_accesses.Given as goal
 
 abbrev pub invariant-loop-i : goal.invariant-loop-i

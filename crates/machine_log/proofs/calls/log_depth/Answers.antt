@@ -1,10 +1,7 @@
-use borrow.Author.Rules.{rules}
 use mathlib.Core.Path.{◌≡◌, refl}
-use Prim.Native.Nat.{◌+◌, ◌*◌, ◌-◌, ◌≤◌}
+use Prim.Native.Nat.{◌+◌, ◌*◌, ◌-◌}
 use native.Mathlib.Omega.{arith}
-use lib.ListN.{length}
-use Rattle.machine_log.specs.Logged.{WroteAny}
-use Rattle.machine_log.proofs.Logged.{any_none, any-more, row_of, row-none, row_more, row-all}
+use Rattle.machine_log.proofs.Logged.{any_none, any-more, row-none, row_more, row-all}
 use Rattle.machine_log.proofs.calls.log_depth.Goals as goal
 
 pub loop-i-init : goal.loop-i-init

@@ -1,10 +1,8 @@
-use borrow.Author.Rules.{rules}
-use mathlib.Core.Path.{◌≡◌, refl}
-use Prim.Native.Nat.{◌+◌, ◌*◌, ◌-◌, ◌≤◌}
-use native.Mathlib.Omega.{arith}
+use mathlib.Core.Path.{◌≡◌}
+use Prim.Native.Nat.{◌*◌, ◌-◌, ◌≤◌}
 use lib.ListN.{length}
 use Rattle.machine_log.specs.Logged.{WroteAny}
-use Rattle.machine_log.proofs.Logged.{any_none, any-more, row_of, row-none, row_more, row-all}
+use Rattle.machine_log.proofs.Logged.{row_of}
 use Rattle.machine_log.proofs.calls.log_depth.Given as goal
 
 abbrev pub invariant-loop-i : goal.invariant-loop-i

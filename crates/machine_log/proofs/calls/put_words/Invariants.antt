@@ -1,13 +1,8 @@
-use borrow.Author.Rules.{rules}
-use mathlib.Core.Path.{◌≡◌, refl}
-use Prim.Native.Nat.{◌+◌, ◌*◌, ◌-◌, ◌≤◌}
-use native.Mathlib.Omega.{arith}
+use mathlib.Core.Path.{◌≡◌}
+use Prim.Native.Nat.{◌-◌, ◌≤◌}
 use lib.ListN.{take, length}
-use lib.Seq.{length-take-le, take-length}
 use Rattle.machine_log.specs.Logged.{logged}
 use Rattle.machine.specs.Records.{words_bytes}
-use Rattle.machine.proofs.Records.{words-bytes-length}
-use Rattle.machine_log.proofs.Logged.{joined, logged_none, words_more}
 use Rattle.machine_log.proofs.calls.put_words.Given as goal
 
 abbrev pub invariant-loop-i : goal.invariant-loop-i

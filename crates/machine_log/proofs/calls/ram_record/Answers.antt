@@ -1,4 +1,3 @@
-use borrow.Author.Rules.{rules}
 use Rattle.machine_log.proofs.Logged.{ram-written}
 use Rattle.machine_log.proofs.calls.ram_record.Goals as goal
 

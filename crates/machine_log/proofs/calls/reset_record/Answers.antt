@@ -1,4 +1,3 @@
-use borrow.Author.Rules.{rules}
 use Rattle.machine_log.proofs.Logged.{reset-written}
 use Rattle.machine_log.proofs.calls.reset_record.Goals as goal
 

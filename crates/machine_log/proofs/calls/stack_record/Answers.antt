@@ -1,4 +1,3 @@
-use borrow.Author.Rules.{rules}
 use Rattle.machine_log.proofs.Logged.{stack-written}
 use Rattle.machine_log.proofs.calls.stack_record.Goals as goal
 

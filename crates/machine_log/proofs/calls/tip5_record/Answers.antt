@@ -1,4 +1,3 @@
-use borrow.Author.Rules.{rules}
 use native.Mathlib.Omega.{arith}
 use Rattle.machine_log.proofs.Logged.{clock_two, head_timed, head_plain, tip5-written}
 use Rattle.machine_log.proofs.calls.tip5_record.Goals as goal

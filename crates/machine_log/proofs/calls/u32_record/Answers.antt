@@ -1,4 +1,3 @@
-use borrow.Author.Rules.{rules}
 use native.Mathlib.Omega.{arith}
 use Rattle.machine_log.proofs.Logged.{clock_two, head_timed, head_plain, u32-written}
 use Rattle.machine_log.proofs.calls.u32_record.Goals as goal

@@ -1,7 +1,6 @@
 use borrow.Author.Tests.{eq-eqb, ne_eqb}
 use Rattle.machine.specs.Records.{length_of}
 use mathlib.Core.Path.{◌∙◌}
-use borrow.Author.Rules.{rules}
 use Rattle.machine_log.proofs.kinds.length_of.Goals as goal
 
 -- `machine_log::kinds::length_of` meets its contract. Assumes nothing.

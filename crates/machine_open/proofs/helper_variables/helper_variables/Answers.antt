@@ -1,6 +1,5 @@
-use borrow.Author.Rules.{rules, length_unmapped}
+use borrow.Author.Rules.{rules}
 use mathlib.Core.Path.{◌≡◌}
-use Prim.Native.Nat.{ℕ}
 use lib.ListN.{length}
 use Rattle.machine_helpers.proofs.HelpersLaws.{sound-helpable}
 use Rattle.machine_open.proofs.GivenLaws.{accepted-sound, given_is, given-turned}

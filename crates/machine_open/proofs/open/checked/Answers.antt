@@ -1,5 +1,4 @@
 use Rattle.machine_open.proofs.OpenLaws.{open_deep, open_took, open_kept}
-use borrow.Author.Rules.{rules}
 use Rattle.machine_open.proofs.open.checked.Goals as goal
 
 pub open_stack-requires : goal.open_stack-requires

@@ -1,4 +1,3 @@
-use borrow.Author.Rules.{rules}
 use mathlib.Core.Path.{refl}
 use Rattle.machine_open.proofs.OpenLaws.{stack-opened}
 use Rattle.machine_open.proofs.open.open_stack.Goals as goal

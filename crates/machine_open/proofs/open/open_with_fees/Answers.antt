@@ -1,5 +1,4 @@
 use Rattle.machine_fees.proofs.FeeLaws.{zeros_priceable}
-use borrow.Author.Rules.{rules}
 use Rattle.machine_open.proofs.open.open_with_fees.Goals as goal
 
 pub checked-requires : goal.checked-requires

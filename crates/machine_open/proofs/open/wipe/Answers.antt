@@ -1,4 +1,3 @@
-use borrow.Author.Rules.{rules}
 use Rattle.machine_open.proofs.OpenLaws.{wiped}
 use Rattle.machine_open.proofs.open.wipe.Goals as goal
 

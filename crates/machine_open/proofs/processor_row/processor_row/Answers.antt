@@ -1,7 +1,6 @@
-use borrow.Author.Rules.{length_unmapped, rules}
+use borrow.Author.Rules.{rules}
 use Rattle.machine_rows.proofs.RowLaws.{sound-rowable}
 use Rattle.machine_open.proofs.GivenLaws.{accepted-sound, given_is, given-turned}
-use Prim.Native.Nat.{ℕ}
 use mathlib.Core.Path.{◌≡◌, refl}
 use lib.ListN.{length}
 use Rattle.machine_open.proofs.processor_row.processor_row.Goals as goal

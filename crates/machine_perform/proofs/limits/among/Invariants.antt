@@ -1,10 +1,6 @@
-use borrow.Author.Rules.{rules}
-use mathlib.Core.Logic.{⊎_elim}
-use mathlib.Core.Path.{◌≡◌, refl, sym, ◌∙◌}
-use Prim.Native.Nat.{◌+◌, ◌-◌, ◌≤◌}
-use native.Mathlib.Omega.{arith}
+use mathlib.Core.Path.{◌≡◌}
+use Prim.Native.Nat.{◌-◌, ◌≤◌}
 use Rattle.machine_perform.specs.PerformView.{among_of}
-use Rattle.machine_perform.proofs.LimitsLaws.{among_here, among_past}
 use Rattle.machine_perform.proofs.limits.among.Given as goal
 
 abbrev pub invariant-loop-i : goal.invariant-loop-i

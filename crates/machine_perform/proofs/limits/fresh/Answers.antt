@@ -1,6 +1,5 @@
-use borrow.Author.Rules.{rules}
 use mathlib.Core.Path.{◌≡◌, refl}
-use Prim.Native.Nat.{◌-◌, ◌≤◌}
+use Prim.Native.Nat.{◌-◌}
 use native.Mathlib.Omega.{arith}
 use Rattle.machine_perform.specs.PerformView.{fresh_of}
 use Rattle.machine_perform.proofs.LimitsLaws.{new_few, fresh_turn}

@@ -1,9 +1,6 @@
-use borrow.Author.Rules.{rules}
-use mathlib.Core.Path.{◌≡◌, refl}
+use mathlib.Core.Path.{◌≡◌}
 use Prim.Native.Nat.{◌-◌, ◌≤◌}
-use native.Mathlib.Omega.{arith}
 use Rattle.machine_perform.specs.PerformView.{fresh_of}
-use Rattle.machine_perform.proofs.LimitsLaws.{new_few, fresh_turn}
 use Rattle.machine_perform.proofs.limits.fresh.Given as goal
 
 abbrev pub invariant-loop-i : goal.invariant-loop-i

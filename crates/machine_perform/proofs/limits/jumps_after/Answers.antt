@@ -1,4 +1,3 @@
-use borrow.Author.Rules.{rules}
 use Rattle.machine_perform.specs.PerformView.{jumps_by}
 use Rattle.machine_perform.proofs.limits.jumps_after.Goals as goal
 

@@ -1,9 +1,8 @@
 use mathlib.Core.Path.{◌≡◌}
-use Prim.Native.Nat.{ℕ}
 use lib.ListN.{length}
 use Rattle.machine.specs.Machine.{memory}
 use Rattle.machine_perform.proofs.LimitsLaws.{limits_is}
-use borrow.Author.Rules.{rules, length_unmapped}
+use borrow.Author.Rules.{rules}
 use Rattle.machine_perform.proofs.limits.limits.Goals as goal
 
 pub returns : goal.returns

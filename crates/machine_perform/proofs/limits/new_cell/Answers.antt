@@ -3,7 +3,6 @@ use mathlib.Core.Bool.{true, false}
 use Rattle.machine.specs.Ram.{cells}
 use Rattle.machine_ram.specs.RamView.{found_of}
 use Rattle.machine_perform.proofs.LimitsLaws.{in_at, in_absent, new_among, new_in_lem}
-use borrow.Author.Rules.{rules}
 use Rattle.machine_perform.proofs.limits.new_cell.Goals as goal
 
 pub returns-then-among : goal.returns-then-among

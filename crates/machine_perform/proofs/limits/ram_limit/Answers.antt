@@ -1,7 +1,6 @@
 -- `machine_perform::limits::ram_limit` meets its contract: fewer cells are added than there are writes.
 use native.Mathlib.Omega.{arith}
 use Rattle.machine_perform.proofs.LimitsLaws.{fresh-least, fresh-fits}
-use borrow.Author.Rules.{rules}
 use Rattle.machine_perform.proofs.limits.ram_limit.Goals as goal
 
 pub returns-then-count-n : goal.returns-then-count-n

@@ -1,5 +1,4 @@
 use Rattle.machine_perform.specs.PerformView.{jump_words}
-use borrow.Author.Rules.{rules}
 use Rattle.machine_perform.proofs.perform.change_jumps.Goals as goal
 
 pub returns-then-calls : goal.returns-then-calls

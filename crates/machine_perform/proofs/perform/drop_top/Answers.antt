@@ -1,5 +1,4 @@
 use Rattle.machine.specs.Apply.{dropped}
-use borrow.Author.Rules.{rules}
 use Rattle.machine_perform.proofs.perform.drop_top.Goals as goal
 
 pub returns : goal.returns

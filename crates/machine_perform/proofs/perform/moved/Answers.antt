@@ -1,5 +1,3 @@
-use native.Mathlib.Omega.{arith}
-use borrow.Author.Rules.{rules}
 use Rattle.machine_perform.proofs.perform.moved.Goals as goal
 
 pub returns : goal.returns

@@ -1,6 +1,5 @@
-use borrow.Author.Rules.{rules, length_unmapped}
-use mathlib.Core.Path.{◌≡◌, sym}
-use Prim.Native.Nat.{ℕ}
+use borrow.Author.Rules.{rules}
+use mathlib.Core.Path.{◌≡◌}
 use native.Mathlib.Omega.{arith}
 use lib.ListN.{length}
 use Rattle.machine.specs.Machine.{memory}

@@ -1,6 +1,5 @@
 use mathlib.Core.Path.{sym}
 use lib.Seq.{set_out}
-use borrow.Author.Rules.{rules}
 use Rattle.machine_perform.proofs.perform.store.Goals as goal
 
 pub returns-else-at-s : goal.returns-else-at-s

@@ -1,12 +1,7 @@
-use borrow.Author.Rules.{rules}
-use mathlib.Core.Path.{◌≡◌, refl}
-use Prim.Native.Nat.{◌+◌, ◌-◌, ◌≤◌}
+use mathlib.Core.Path.{refl}
+use Prim.Native.Nat.{◌-◌}
 use native.Mathlib.Omega.{arith}
-use lib.ListN.{length}
 use Rattle.machine.specs.Ram.{cells}
-use Rattle.machine_ram.specs.RamView.{Ordered}
-use Rattle.machine_effects.specs.EffectView.{writes_from}
-use Rattle.machine.specs.Apply.{touched}
 use Rattle.machine_perform.proofs.PerformLaws.{writes_start, writes-room, writes_turn, writes-done}
 use Rattle.machine_ram.proofs.RamView.{stored-ordered}
 use Rattle.machine_perform.proofs.perform.write_all.Goals as goal

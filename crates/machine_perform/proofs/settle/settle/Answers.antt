@@ -1,4 +1,3 @@
-use borrow.Author.Rules.{rules}
 use mathlib.Core.Path.{sym, ◌∙◌}
 use Rattle.machine.proofs.Refused.{numbered_is}
 use Rattle.machine_perform.proofs.SettleLaws.{no_code, settled-took, settled-kept}

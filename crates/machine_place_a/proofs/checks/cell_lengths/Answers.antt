@@ -1,4 +1,3 @@
-use borrow.Author.Rules.{rules}
 use Rattle.machine.specs.Ram.{cells1}
 use Rattle.machine_place_a.proofs.checks.cell_lengths.Goals as goal
 

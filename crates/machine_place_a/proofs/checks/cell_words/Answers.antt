@@ -1,4 +1,3 @@
-use borrow.Author.Rules.{rules}
 use Rattle.machine.specs.Ram.{cells2}
 use Rattle.machine_place_a.proofs.checks.cell_words.Goals as goal
 

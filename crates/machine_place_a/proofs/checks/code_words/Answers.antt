@@ -1,4 +1,3 @@
-use borrow.Author.Rules.{rules}
 use Rattle.machine.specs.PlaceA.{code2}
 use Rattle.machine_place_a.proofs.checks.code_words.Goals as goal
 

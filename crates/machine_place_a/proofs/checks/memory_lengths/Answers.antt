@@ -1,4 +1,3 @@
-use borrow.Author.Rules.{rules}
 use Rattle.machine.specs.PlaceA.{memory1}
 use Rattle.machine_place_a.proofs.checks.memory_lengths.Goals as goal
 

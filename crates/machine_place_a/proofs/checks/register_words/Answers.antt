@@ -1,4 +1,3 @@
-use borrow.Author.Rules.{rules}
 use Rattle.machine.proofs.Words.{word_above}
 use Rattle.machine_place_a.proofs.checks.register_words.Goals as goal
 

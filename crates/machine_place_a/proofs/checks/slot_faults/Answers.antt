@@ -1,8 +1,6 @@
-use borrow.Author.Rules.{rules}
 use native.Mathlib.Omega.{arith}
-use mathlib.Core.Path.{◌≡◌, refl, sym, ap, ◌∙◌}
-use Prim.Native.Nat.{◌-◌, ◌≤◌}
-use lib.ListN.{length}
+use mathlib.Core.Path.{refl, sym, ap, ◌∙◌}
+use Prim.Native.Nat.{◌-◌}
 use Rattle.choices.specs.Choice.{first_of}
 use Rattle.machine.specs.PlaceA.{opcodes3, arguments4}
 use Rattle.machine_place_a.proofs.ChecksLaws.{opcodes-more, arguments_more, slots-stop, slots_end}

@@ -1,4 +1,3 @@
-use borrow.Author.Rules.{rules}
 use Rattle.machine_place_a.proofs.checks.unused_places.Goals as goal
 
 pub returns : goal.returns

@@ -1,8 +1,6 @@
-use borrow.Author.Rules.{rules}
 use native.Mathlib.Omega.{arith}
 use mathlib.Core.Path.{◌≡◌, sym}
-use Prim.Native.Nat.{◌-◌, ◌≤◌}
-use lib.ListN.{length}
+use Prim.Native.Nat.{◌-◌}
 use Rattle.machine.specs.Words.{zeros_from}
 use Rattle.machine_place_a.proofs.ChecksLaws.{zeros_more, zeros_stop, zeros_end}
 use Rattle.machine_place_a.proofs.checks.unused_words.Goals as goal

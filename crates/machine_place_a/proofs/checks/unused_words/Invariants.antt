@@ -1,11 +1,8 @@
 -- `machine_place_a::checks::unused_words` meets its contract: only zeros so far, or the loop has stopped.
-use borrow.Author.Rules.{rules}
-use native.Mathlib.Omega.{arith}
-use mathlib.Core.Path.{◌≡◌, sym}
+use mathlib.Core.Path.{◌≡◌}
 use Prim.Native.Nat.{◌-◌, ◌≤◌}
 use lib.ListN.{length}
 use Rattle.machine.specs.Words.{zeros_from}
-use Rattle.machine_place_a.proofs.ChecksLaws.{zeros_more, zeros_stop, zeros_end}
 use Rattle.machine_place_a.proofs.checks.unused_words.Given as goal
 
 abbrev pub invariant-loop-i : goal.invariant-loop-i

@@ -1,7 +1,6 @@
-use borrow.Author.Rules.{rules}
 use native.Mathlib.Omega.{arith}
-use mathlib.Core.Path.{◌≡◌, refl, sym}
-use Prim.Native.Nat.{◌-◌, ◌≤◌}
+use mathlib.Core.Path.{refl, sym}
+use Prim.Native.Nat.{◌-◌}
 use Rattle.machine.specs.Words.{words_of}
 use Rattle.machine_place_a.proofs.ChecksLaws.{words_more, words-stop, words_end}
 use Rattle.machine_place_a.proofs.checks.words_below.Goals as goal

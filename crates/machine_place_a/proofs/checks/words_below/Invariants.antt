@@ -1,10 +1,7 @@
 -- `machine_place_a::checks::words_below` meets its contract: no word at or above p so far, or the loop has stopped.
-use borrow.Author.Rules.{rules}
-use native.Mathlib.Omega.{arith}
-use mathlib.Core.Path.{◌≡◌, refl, sym}
+use mathlib.Core.Path.{◌≡◌}
 use Prim.Native.Nat.{◌-◌, ◌≤◌}
 use Rattle.machine.specs.Words.{words_of}
-use Rattle.machine_place_a.proofs.ChecksLaws.{words_more, words-stop, words_end}
 use Rattle.machine_place_a.proofs.checks.words_below.Given as goal
 
 abbrev pub invariant-loop-i : goal.invariant-loop-i

@@ -1,5 +1,4 @@
 -- `machine_quick::quick::act` meets its contract: each arm is its instruction, and the rest does not act.
-use borrow.Author.Rules.{rules}
 use Rattle.machine.specs.Instruction.{table, decode}
 use Rattle.machine.specs.Decide.{effect_of}
 use Rattle.machine_decide.proofs.DecideLaws.{place_allowed}

@@ -1,4 +1,3 @@
-use borrow.Author.Rules.{rules}
 use Rattle.machine_decide.proofs.DecideLaws.{plain-shows}
 use Rattle.machine_quick.proofs.QuickLaws.{quick_usable}
 use Rattle.machine_quick.proofs.quick.plain.Goals as goal

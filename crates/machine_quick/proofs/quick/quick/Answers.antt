@@ -1,4 +1,3 @@
-use borrow.Author.Rules.{rules}
 use native.Mathlib.Omega.{arith}
 use Rattle.machine_quick.proofs.QuickLaws.{quick_inside, quick_standing, quick_changing, quick_done, quick_none}
 use Rattle.machine_quick.proofs.quick.quick.Goals as goal

@@ -1,4 +1,4 @@
-use Rattle.std.proofs.Common.{◌-◌, subst, rules}
+use Rattle.std.proofs.Common.{subst}
 use Rattle.machine_ram.specs.RamView.{Guessed}
 use Rattle.machine_ram.proofs.near.find.Goals as goal
 

@@ -1,4 +1,4 @@
-use Rattle.std.proofs.Common.{◌-◌, arith, rules}
+use Rattle.std.proofs.Common.{arith}
 use Rattle.machine_ram.proofs.RamView.{found_here, found-not, guess_spot}
 use Rattle.machine_ram.proofs.near.found_at.Goals as goal
 

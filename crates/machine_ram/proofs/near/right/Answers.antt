@@ -1,4 +1,4 @@
-use Rattle.std.proofs.Common.{◌-◌, subst, rules}
+use Rattle.std.proofs.Common.{subst}
 use Rattle.machine_ram.specs.RamView.{Above}
 use Rattle.machine_ram.proofs.RamView.{guess_wrong, guess_by}
 use Rattle.machine_ram.proofs.near.right.Goals as goal

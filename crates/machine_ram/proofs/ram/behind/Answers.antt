@@ -1,4 +1,4 @@
-use Rattle.std.proofs.Common.{◌-◌, le-ltb, lt-ltb}
+use Rattle.std.proofs.Common.{le-ltb, lt-ltb}
 use Rattle.machine_ram.proofs.ram.behind.Goals as goal
 
 -- `machine_ram::ram::behind` meets its contract. Assumes nothing.

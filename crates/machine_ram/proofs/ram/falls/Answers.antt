@@ -1,5 +1,4 @@
-use Rattle.std.proofs.Common.{◌≡◌, ◌-◌, ◌≤◌, arith, rules}
-use Rattle.machine.specs.Ram.{falls_of}
+use Rattle.std.proofs.Common.{arith}
 use Rattle.machine_ram.proofs.RamView.{falls_none, falls_more, falls_stop, falls_end}
 use Rattle.machine_ram.proofs.ram.falls.Goals as goal
 

@@ -1,6 +1,5 @@
-use Rattle.std.proofs.Common.{◌≡◌, ◌-◌, ◌≤◌, arith, rules}
+use Rattle.std.proofs.Common.{◌≡◌, ◌-◌, ◌≤◌}
 use Rattle.machine.specs.Ram.{falls_of}
-use Rattle.machine_ram.proofs.RamView.{falls_none, falls_more, falls_stop, falls_end}
 use Rattle.machine_ram.proofs.ram.falls.Given as goal
 
 abbrev pub invariant-loop-i : goal.invariant-loop-i

@@ -1,4 +1,4 @@
-use Rattle.std.proofs.Common.{◌-◌, arith, rules}
+use Rattle.std.proofs.Common.{arith}
 use Rattle.machine_ram.proofs.RamView.{found_here, found-not}
 use Rattle.machine_ram.proofs.ram.find.Goals as goal
 

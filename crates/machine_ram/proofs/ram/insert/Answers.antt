@@ -1,4 +1,4 @@
-use Rattle.std.proofs.Common.{ℕ, ◌-◌, List, set, ap, rules}
+use Rattle.std.proofs.Common.{ℕ, List, set, ap}
 use Rattle.machine.specs.Ram.{inserted}
 use Rattle.machine.proofs.Moves.{moved-lent}
 use Rattle.machine_ram.proofs.ram.insert.Goals as goal

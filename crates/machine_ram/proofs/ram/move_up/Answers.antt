@@ -1,5 +1,4 @@
-use Rattle.std.proofs.Common.{◌≡◌, ◌-◌, ◌≤◌, length, refl, arith, rules}
-use Rattle.machine.specs.Ram.{moved_up}
+use Rattle.std.proofs.Common.{refl, arith, rules}
 use Rattle.machine_ram.proofs.RamView.{moved_none, moved_one, moved_all}
 use Rattle.machine_ram.proofs.ram.move_up.Goals as goal
 

@@ -1,6 +1,5 @@
-use Rattle.std.proofs.Common.{◌≡◌, ◌-◌, ◌≤◌, length, refl, arith, rules}
+use Rattle.std.proofs.Common.{◌≡◌, ◌-◌, ◌≤◌, length}
 use Rattle.machine.specs.Ram.{moved_up}
-use Rattle.machine_ram.proofs.RamView.{moved_none, moved_one, moved_all}
 use Rattle.machine_ram.proofs.ram.move_up.Given as goal
 
 abbrev pub invariant-loop-k : goal.invariant-loop-k

@@ -1,5 +1,5 @@
-use Rattle.std.proofs.Common.{◌-◌, arith, rules}
-use Rattle.machine_ram.proofs.RamView.{Narrowed, narrowed-all, turn_half, turn_none, turn_last}
+use Rattle.std.proofs.Common.{arith}
+use Rattle.machine_ram.proofs.RamView.{narrowed-all, turn_half, turn_none, turn_last}
 use Rattle.machine_ram.proofs.ram.search.Goals as goal
 
 pub loop-left-init : goal.loop-left-init

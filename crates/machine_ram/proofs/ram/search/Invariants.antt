@@ -1,5 +1,4 @@
-use Rattle.std.proofs.Common.{◌-◌, arith, rules}
-use Rattle.machine_ram.proofs.RamView.{Narrowed, narrowed-all, turn_half, turn_none, turn_last}
+use Rattle.machine_ram.proofs.RamView.{Narrowed}
 use Rattle.machine_ram.proofs.ram.search.Given as goal
 
 abbrev pub invariant-loop-left : goal.invariant-loop-left

@@ -1,4 +1,4 @@
-use Rattle.std.proofs.Common.{◌-◌, le-ltb, lt-ltb}
+use Rattle.std.proofs.Common.{le-ltb, lt-ltb}
 use Rattle.machine_ram.proofs.ram.toward.Goals as goal
 
 -- `machine_ram::ram::toward` meets its contract. Assumes nothing.

@@ -1,4 +1,4 @@
-use Rattle.std.proofs.Common.{◌-◌, sym, ap, ◌∙◌, subst, arith, rules}
+use Rattle.std.proofs.Common.{sym, ap, ◌∙◌, subst, arith}
 use Rattle.machine.specs.Ram.{cells}
 use Rattle.machine_ram.specs.RamView.{found_of, PlacedIn}
 use Rattle.machine_ram.proofs.RamView.{write-at, write-absent, absent_more}

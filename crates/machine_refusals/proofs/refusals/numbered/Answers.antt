@@ -1,6 +1,5 @@
 use mathlib.Core.Path.{sym, ap, ◌∙◌}
 use Rattle.machine.specs.Refusal.{refusal_of}
-use borrow.Author.Rules.{rules}
 use Rattle.machine_refusals.proofs.refusals.numbered.Goals as goal
 
 pub returns-in-Checked : goal.returns-in-Checked

@@ -1,5 +1,4 @@
 use borrow.Author.Tests.{lt-ltb, le-ltb}
-use borrow.Author.Rules.{rules}
 use Rattle.machine_rows.proofs.processor_row.current_instruction.Goals as goal
 
 pub returns-then-at-opcodes : goal.returns-then-at-opcodes

@@ -1,6 +1,5 @@
 use mathlib.Core.Path.{sym, ◌∙◌}
 use borrow.Author.Tests.{lt-ltb, le-ltb, eq-eqb, ne_eqb}
-use borrow.Author.Rules.{rules}
 use Rattle.machine_rows.proofs.processor_row.next_instruction_or_argument.Goals as goal
 
 -- `machine_rows::processor_row::next_instruction_or_argument` meets its contract. Assumes nothing.

@@ -1,5 +1,4 @@
 use Rattle.machine_rows.proofs.RowLaws.{row_put}
-use borrow.Author.Rules.{rules}
 use Rattle.machine_rows.proofs.processor_row.next_row.Goals as goal
 
 pub returns : goal.returns

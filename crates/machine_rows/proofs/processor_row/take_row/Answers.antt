@@ -1,6 +1,5 @@
 use mathlib.Core.Path.{sym, ◌∙◌}
 use mathlib.Core.Bool.{true≢false}
-use borrow.Author.Rules.{rules}
 use Rattle.machine_rows.proofs.processor_row.take_row.Goals as goal
 
 pub returns-else-asked : goal.returns-else-asked

@@ -1,9 +1,9 @@
 -- `machine_rows::processor_row::write_columns` meets its contract: where it stores, the list is as long as ever, whatever was stored before. Assumes
 use native.Mathlib.Omega.{arith}
 use mathlib.Core.Path.{◌≡◌}
-use mathlib.Core.List.{[], ◌∷◌}
+use mathlib.Core.List.{◌∷◌}
 use lib.ListN.{length}
-use lib.Seq.{length-sets, lt-length-sets}
+use lib.Seq.{lt-length-sets}
 use borrow.Author.Rules.{rules}
 use Rattle.machine_rows.proofs.RowLaws.{columns-written}
 use Rattle.machine_rows.proofs.processor_row.write_columns.Goals as goal

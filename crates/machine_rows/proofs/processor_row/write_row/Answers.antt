@@ -2,7 +2,6 @@ use Rattle.machine.specs.Machine.{code, memory}
 use Rattle.machine.proofs.OpStack.{top-words}
 use Rattle.machine_rows.specs.RowView.{shown}
 use Rattle.machine_rows.proofs.RowLaws.{row_is}
-use borrow.Author.Rules.{rules}
 use Rattle.machine_rows.proofs.processor_row.write_row.Goals as goal
 
 pub helpers_of-h-requires : goal.helpers_of-h-requires

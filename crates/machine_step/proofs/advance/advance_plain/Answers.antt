@@ -1,4 +1,3 @@
-use borrow.Author.Rules.{rules}
 use native.Mathlib.Omega.{arith}
 use Rattle.machine_step.proofs.AdvanceLaws.{way-resolving, way-roomy, way-advanced, plain-way}
 use Rattle.machine_step.proofs.advance.advance_plain.Goals as goal

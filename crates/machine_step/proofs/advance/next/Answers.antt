@@ -1,6 +1,3 @@
-use borrow.Author.Rules.{rules}
-use mathlib.Core.Path.{◌≡◌, sym, ap, ◌∙◌}
-use Prim.Native.Nat.{◌+◌}
 use native.Mathlib.Omega.{arith}
 use Rattle.machine.proofs.Rows.{size_small}
 use Rattle.machine_step.proofs.advance.next.Goals as goal

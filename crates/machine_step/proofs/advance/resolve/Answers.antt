@@ -1,5 +1,3 @@
-use borrow.Author.Rules.{rules}
-use mathlib.Core.Path.{◌≡◌, sym, refl}
 use Rattle.machine_step.proofs.AdvanceLaws.{resolved-acts, resolved-refuses, resolved-drops}
 use Rattle.machine_step.proofs.advance.resolve.Goals as goal
 

@@ -1,11 +1,4 @@
-use borrow.Author.Rules.{rules, length_unmapped}
-use mathlib.Core.Path.{◌≡◌, refl, ap, sym}
-use mathlib.Core.List.{List, ◌++◌}
-use Prim.Native.Nat.{ℕ}
-use lib.ListN.{length}
-use Rattle.machine.specs.Records.{call_records, stack_records}
-use Rattle.machine_effects.specs.EffectView.{calls_of}
-use Rattle.machine.specs.Effect.{Call}
+use borrow.Author.Rules.{rules}
 use Rattle.machine_step.proofs.RecordsLaws.{recorded_some, recorded-none}
 use Rattle.machine_step.proofs.records.hashed.Goals as goal
 

@@ -1,4 +1,3 @@
-use borrow.Author.Rules.{rules}
 use Rattle.machine_step.proofs.RecordsLaws.{moved_some, moved_none}
 use Rattle.machine_step.proofs.records.moved.Goals as goal
 

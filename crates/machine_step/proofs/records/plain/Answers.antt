@@ -1,4 +1,3 @@
-use borrow.Author.Rules.{rules}
 use mathlib.Core.Path.{refl}
 use Rattle.machine_step.proofs.RecordsLaws.{recorded_some, recorded-none}
 use Rattle.machine_step.proofs.records.plain.Goals as goal

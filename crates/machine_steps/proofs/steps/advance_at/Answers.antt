@@ -1,4 +1,3 @@
-use borrow.Author.Rules.{rules}
 use native.Mathlib.Omega.{arith}
 use Rattle.machine_steps.proofs.StepsLaws.{advanced-at}
 use Rattle.machine_steps.proofs.steps.advance_at.Goals as goal

@@ -5,7 +5,6 @@ use Rattle.machine.specs.Lengths.{most_bytes}
 use Rattle.machine_steps.proofs.StepsLaws.{most_few}
 use native.Mathlib.Omega.{arith}
 use mathlib.Core.Path.{◌≡◌}
-use borrow.Author.Rules.{rules}
 use Rattle.machine_steps.proofs.steps.log_lacks.Goals as goal
 
 -- `machine_steps::steps::log_lacks` meets its contract. Assumes nothing.

@@ -1,5 +1,3 @@
-use native.Mathlib.Omega.{arith}
-use borrow.Author.Rules.{rules}
 use Rattle.machine_steps.proofs.steps.price.Goals as goal
 
 pub bounds-opcodes-pointer : goal.bounds-opcodes-pointer

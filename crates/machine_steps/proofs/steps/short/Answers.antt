@@ -1,5 +1,4 @@
 use mathlib.Core.Path.{sym, ◌∙◌}
-use borrow.Author.Rules.{rules}
 use Rattle.machine_steps.proofs.steps.short.Goals as goal
 
 pub returns-then-log_lacks : goal.returns-then-log_lacks

@@ -1,14 +1,10 @@
-use mathlib.Core.Logic.{⊎_elim}
-use borrow.Author.Rules.{rules}
 use Rattle.machine.specs.Machine.{machine, code, memory}
 use Rattle.machine_rows.specs.RowView.{shown_in, RowTaken}
-use Rattle.machine_rows.proofs.RowLaws.{sound-rowable, put-asked, taken-asked, put_unasked, taken_unasked}
 use Rattle.machine_steps.specs.StepsView.{price_by}
-use Rattle.machine_steps.proofs.StepsLaws.{Going, steps_start, steps_within, rows_within, row_room, steps_stand, steps-fit, steps-sound, steps-priced, steps_pay, steps_go, quick_sound, quick_priced, quick_pay, steps_quick, quick_room, steps-kept, row_kept, steps-stop, steps_fill, steps-halt, steps_spend, price_there, beside_not, beside_priced, pay_not, pay_by}
-use Prim.Native.Nat.{ℕ, ◌+◌, ◌-◌}
-use native.Mathlib.Omega.{arith}
-use mathlib.Core.Path.{◌≡◌, refl, sym, ap, ◌∙◌}
-use lib.ListN.{length, get_or}
+use Rattle.machine_steps.proofs.StepsLaws.{Going}
+use Prim.Native.Nat.{◌-◌}
+use mathlib.Core.Path.{◌≡◌}
+use lib.ListN.{length}
 use Rattle.machine_steps.proofs.steps.steps.Given as goal
 
 abbrev pub invariant-loop-count : goal.invariant-loop-count

@@ -1,4 +1,3 @@
-
 use Rattle.machine_steps.proofs.steps.table_lacks.Goals as goal
 
 -- `machine_steps::steps::table_lacks` meets its contract. Assumes nothing.

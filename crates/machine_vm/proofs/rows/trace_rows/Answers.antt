@@ -1,6 +1,5 @@
 use mathlib.Core.Bool.{true≢false}
 use Rattle.machine_fees.proofs.FeeLaws.{unpriceable}
-use borrow.Author.Rules.{rules}
 use Rattle.machine_vm.proofs.rows.trace_rows.Goals as goal
 
 pub call-requires : goal.call-requires

@@ -1,6 +1,5 @@
 use mathlib.Core.Bool.{true≢false}
 use Rattle.machine_fees.proofs.FeeLaws.{zeros_priceable}
-use borrow.Author.Rules.{rules}
 use Rattle.machine_vm.proofs.rows.trace_rows_with_fees.Goals as goal
 
 pub call-requires : goal.call-requires

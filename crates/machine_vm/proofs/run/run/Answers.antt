@@ -1,6 +1,5 @@
 use Rattle.machine_vm.proofs.RunLaws.{unlent, runs_by}
 use mathlib.Core.Path.{refl}
-use borrow.Author.Rules.{rules}
 use Rattle.machine_vm.proofs.run.run.Goals as goal
 
 pub call-requires : goal.call-requires

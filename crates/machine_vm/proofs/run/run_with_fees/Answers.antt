@@ -1,7 +1,6 @@
 use lib.Dec.{lit≤}
 use Rattle.machine_fees.proofs.FeeLaws.{zeros_priceable}
 use Rattle.machine_vm.proofs.RunLaws.{runs_by}
-use borrow.Author.Rules.{rules}
 use Rattle.machine_vm.proofs.run.run_with_fees.Goals as goal
 
 pub call-requires : goal.call-requires

@@ -1,6 +1,6 @@
-use borrow.Author.Rules.{length_unmapped, rules}
+use borrow.Author.Rules.{rules}
 use Rattle.machine_vm.proofs.StepLaws.{step-number, stands, stepped, step-turned}
-use Prim.Native.Nat.{ℕ, ◌<◌}
+use Prim.Native.Nat.{◌<◌}
 use native.Mathlib.Omega.{arith}
 use mathlib.Core.Path.{◌≡◌}
 use lib.ListN.{length}

@@ -1,6 +1,5 @@
 use lib.ListN.{get_or-eq_default}
 use mathlib.Core.Path.{sym}
-use borrow.Author.Rules.{rules}
 use Rattle.machine_vm.proofs.step.opcode_at.Goals as goal
 
 pub returns-else-at-opcodes : goal.returns-else-at-opcodes

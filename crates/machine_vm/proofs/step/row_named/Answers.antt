@@ -1,4 +1,3 @@
-
 use Rattle.machine_vm.proofs.step.row_named.Goals as goal
 
 -- `machine_vm::step::row_named` meets its contract. Assumes nothing.

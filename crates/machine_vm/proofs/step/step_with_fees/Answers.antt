@@ -1,7 +1,6 @@
 use Rattle.machine_fees.proofs.FeeLaws.{zeros_priceable}
 use Rattle.machine_vm.proofs.StepLaws.{taken-shaped, names_row}
 use mathlib.Core.Path.{sym, ◌∙◌}
-use borrow.Author.Rules.{rules}
 use Rattle.machine_vm.proofs.step.step_with_fees.Goals as goal
 
 pub checked-r-requires : goal.checked-r-requires

@@ -1,7 +1,6 @@
 use lib.Dec.{lit≤}
 use mathlib.Core.Bool.{true≢false}
 use Rattle.machine_fees.proofs.FeeLaws.{unpriceable}
-use borrow.Author.Rules.{rules}
 use Rattle.machine_vm.proofs.trace.trace_execution.Goals as goal
 
 pub call-requires : goal.call-requires

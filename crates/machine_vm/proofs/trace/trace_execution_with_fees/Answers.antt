@@ -1,7 +1,6 @@
 use lib.Dec.{lit≤}
 use mathlib.Core.Bool.{true≢false}
 use Rattle.machine_fees.proofs.FeeLaws.{zeros_priceable}
-use borrow.Author.Rules.{rules}
 use Rattle.machine_vm.proofs.trace.trace_execution_with_fees.Goals as goal
 
 pub call-requires : goal.call-requires

@@ -1,7 +1,6 @@
 use Prim.Native.Nat.{◌-◌}
 use native.Mathlib.Omega.{arith}
 use mathlib.Core.Path.{refl}
-use borrow.Author.Rules.{rules}
 use Rattle.replay_calls.proofs.call.by_large_table.Goals as goal
 
 pub rebuild-requires : goal.rebuild-requires

@@ -1,5 +1,4 @@
 use Rattle.replay_calls.proofs.QuietLaws.{rebuilt-quiet}
-use borrow.Author.Rules.{rules}
 use Rattle.replay_calls.proofs.call.by_table.Goals as goal
 
 -- `replay_calls::call::by_table` meets its contract. Assumes nothing.

@@ -1,7 +1,6 @@
 use Prim.Native.Nat.{◌-◌}
 use native.Mathlib.Omega.{arith}
 use mathlib.Core.Path.{refl}
-use borrow.Author.Rules.{rules}
 use Rattle.replay_calls.proofs.Deciding.{decide_full, decide_all, decide_room, decide_read, walked_again, left-none, left-whole}
 use Rattle.replay_group.proofs.SweepLaws.{lent_again}
 use Rattle.replay_calls.proofs.call.decide.Goals as goal

@@ -1,6 +1,5 @@
 use Prim.Native.Nat.{◌-◌}
 use native.Mathlib.Omega.{arith}
-use borrow.Author.Rules.{rules}
 use Rattle.replay_calls.proofs.Deciding.{fitting, rebuilt-not, rebuilt}
 use Rattle.replay_group.proofs.SweepLaws.{lent_again}
 use Rattle.replay_calls.proofs.call.rebuild.Goals as goal

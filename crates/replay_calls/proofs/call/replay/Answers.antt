@@ -1,6 +1,5 @@
 use Rattle.replay_calls.proofs.Deciding.{call-refused, opens, scans, call-wrong, call-right}
 use Rattle.replay_calls.proofs.QuietLaws.{scan_quiet}
-use borrow.Author.Rules.{rules}
 use Rattle.replay_calls.proofs.call.replay.Goals as goal
 
 pub returns-then-fault-ne0 : goal.returns-then-fault-ne0

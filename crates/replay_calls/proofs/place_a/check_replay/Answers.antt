@@ -1,6 +1,5 @@
 use Rattle.replay_calls.proofs.PlaceALaws.{stop-lengths, stop-words, stop-rest}
 use mathlib.Core.Path.{◌∙◌}
-use borrow.Author.Rules.{rules}
 use Rattle.replay_calls.proofs.place_a.check_replay.Goals as goal
 
 pub returns-then-shape-gt0 : goal.returns-then-shape-gt0

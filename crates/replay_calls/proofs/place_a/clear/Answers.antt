@@ -1,4 +1,3 @@
-use borrow.Author.Rules.{rules}
 use mathlib.Core.Path.{refl}
 use Rattle.replay_calls.proofs.PlaceALaws.{cleared}
 use Rattle.replay_calls.proofs.place_a.clear.Goals as goal

@@ -1,5 +1,4 @@
 use Prim.Native.Nat.{◌-◌}
-use borrow.Author.Rules.{rules}
 use Rattle.replay_group.proofs.PassLaws.{gathers-settled}
 use Rattle.replay_group.proofs.group.group_from.Goals as goal
 

@@ -1,11 +1,7 @@
 use Prim.Native.Nat.{◌-◌}
 use native.Mathlib.Omega.{arith}
-use mathlib.Core.Path.{◌≡◌, refl}
-use lib.ListN.{length}
-use borrow.Author.Rules.{rules}
-use Rattle.replay_scan.specs.Walk.{log_of}
-use Rattle.machine.specs.Ram.{cells as cells_of}
-use Rattle.replay_group.proofs.PassLaws.{Going, going_start, going_made, going_next, next, onward_end, onward-wrong}
+use mathlib.Core.Path.{refl}
+use Rattle.replay_group.proofs.PassLaws.{going_start, going_made, going_next, next, onward_end, onward-wrong}
 use Rattle.replay_group.proofs.group.pass_log.Goals as goal
 
 pub loop-at-init : goal.loop-at-init

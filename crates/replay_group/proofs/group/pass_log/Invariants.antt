@@ -1,11 +1,9 @@
 use Prim.Native.Nat.{◌-◌}
-use native.Mathlib.Omega.{arith}
-use mathlib.Core.Path.{◌≡◌, refl}
+use mathlib.Core.Path.{◌≡◌}
 use lib.ListN.{length}
-use borrow.Author.Rules.{rules}
 use Rattle.replay_scan.specs.Walk.{log_of}
 use Rattle.machine.specs.Ram.{cells as cells_of}
-use Rattle.replay_group.proofs.PassLaws.{Going, going_start, going_made, going_next, next, onward_end, onward-wrong}
+use Rattle.replay_group.proofs.PassLaws.{Going}
 use Rattle.replay_group.proofs.group.pass_log.Given as goal
 
 abbrev pub invariant-loop-at : goal.invariant-loop-at

@@ -1,13 +1,8 @@
-use Prim.Native.Nat.{ℕ, ◌-◌, ◌/◌, ◌≤◌}
+use Prim.Native.Nat.{ℕ, ◌-◌, ◌/◌}
 use native.Mathlib.Omega.{arith}
 use mathlib.Core.Path.{◌≡◌, refl, sym, ap}
-use lib.ListN.{length}
-use mathlib.Core.List.{List}
 use Rattle.machine.specs.Words.{p}
-use Rattle.machine.specs.Ram.{cells as cells_of}
-use Rattle.machine.specs.Records.{Record}
-use Rattle.replay_scan.specs.Walk.{log_of, Walk}
-use Rattle.replay_group.proofs.SweepLaws.{Grouping, grouping-none, grouping-fits, grouping-few, grouping-more, lent_again, sweep_walked, swept_all, swept-whole, walked-ends}
+use Rattle.replay_group.proofs.SweepLaws.{grouping-none, grouping-fits, grouping-few, grouping-more, lent_again, sweep_walked, swept_all, swept-whole, walked-ends}
 use Rattle.replay_group.proofs.group.sweep_all.Goals as goal
 
 pub loop-lo-init : goal.loop-lo-init

@@ -1,13 +1,12 @@
-use Prim.Native.Nat.{ℕ, ◌-◌, ◌/◌, ◌≤◌}
-use native.Mathlib.Omega.{arith}
-use mathlib.Core.Path.{◌≡◌, refl, sym, ap}
+use Prim.Native.Nat.{◌-◌, ◌/◌, ◌≤◌}
+use mathlib.Core.Path.{◌≡◌}
 use lib.ListN.{length}
 use mathlib.Core.List.{List}
 use Rattle.machine.specs.Words.{p}
 use Rattle.machine.specs.Ram.{cells as cells_of}
 use Rattle.machine.specs.Records.{Record}
 use Rattle.replay_scan.specs.Walk.{log_of, Walk}
-use Rattle.replay_group.proofs.SweepLaws.{Grouping, grouping-none, grouping-fits, grouping-few, grouping-more, lent_again, sweep_walked, swept_all, swept-whole, walked-ends}
+use Rattle.replay_group.proofs.SweepLaws.{Grouping}
 use Rattle.replay_group.proofs.group.sweep_all.Given as goal
 
 abbrev pub invariant-loop-lo : goal.invariant-loop-lo

@@ -1,7 +1,5 @@
 use native.Mathlib.Omega.{arith}
 use mathlib.Core.Path.{sym, ◌∙◌}
-use borrow.Author.Rules.{rules}
-use borrow.Author.Tests.{not-true, not-false}
 use Rattle.replay_group.proofs.TurnLaws.{ram_long, not-ram, ram_outside, ram-write, ram_unchecked, ram-right, ram-wrong}
 use Rattle.replay_group.proofs.group.turn.Goals as goal
 

@@ -1,6 +1,5 @@
 use Prim.Native.Nat.{◌-◌}
 use mathlib.Core.Path.{refl}
-use borrow.Author.Rules.{rules}
 use Rattle.replay_group.proofs.WriteLaws.{bring_merging, brings}
 use Rattle.replay_group.proofs.write.bring.Goals as goal
 

@@ -1,5 +1,4 @@
 use Prim.Native.Nat.{◌-◌}
-use borrow.Author.Rules.{rules}
 use Rattle.replay_group.proofs.WriteLaws.{brought-whole, written-whole}
 use Rattle.replay_group.proofs.write.write_back.Goals as goal
 

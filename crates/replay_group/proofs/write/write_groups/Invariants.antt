@@ -1,14 +1,12 @@
 use Prim.Native.Nat.{◌-◌, ◌/◌, ◌≤◌}
-use native.Mathlib.Omega.{arith}
-use mathlib.Core.Path.{◌≡◌, refl}
+use mathlib.Core.Path.{◌≡◌}
 use lib.ListN.{length}
 use mathlib.Core.List.{List}
 use Rattle.machine.specs.Words.{p}
 use Rattle.machine.specs.Ram.{cells as cells_of}
 use Rattle.machine.specs.Records.{Record}
 use Rattle.replay_scan.specs.Walk.{log_of, Walk}
-use Rattle.replay_group.proofs.SweepLaws.{lent_again}
-use Rattle.replay_group.proofs.WriteLaws.{Writing, writing-none, writing-few, writing_more, writing-fits, writing-room, writing_end, gathered-all}
+use Rattle.replay_group.proofs.WriteLaws.{Writing}
 use Rattle.replay_group.proofs.write.write_groups.Given as goal
 
 abbrev pub invariant-loop-lo : goal.invariant-loop-lo

@@ -1,6 +1,5 @@
 use Rattle.replay_scan.proofs.Heads.{head_end, head_short, head_kind, head_size, head_whole, head_stack, head_ram}
 use mathlib.Core.Path.{refl, sym, ◌∙◌}
-use borrow.Author.Rules.{rules}
 use Rattle.replay_scan.proofs.record.head_at.Goals as goal
 
 pub returns-then-left-eq0 : goal.returns-then-left-eq0

@@ -1,5 +1,4 @@
 use Rattle.replay_scan.proofs.Rows.{timed-row}
-use borrow.Author.Rules.{rules}
 use Rattle.replay_scan.proofs.record.timed_clock.Goals as goal
 
 pub returns : goal.returns

@@ -1,7 +1,6 @@
 use borrow.Author.Tests.{lt-ltb, le-ltb}
 use Rattle.replay_scan.specs.RecordView.{whole_head}
 use mathlib.Core.Path.{◌∙◌}
-use borrow.Author.Rules.{rules}
 use Rattle.replay_scan.proofs.record.whole.Goals as goal
 
 pub returns-then-left-size : goal.returns-then-left-size

@@ -1,6 +1,5 @@
 use borrow.Author.Tests.{eq-eqb, ne_eqb}
 use mathlib.Core.Path.{◌∙◌}
-use borrow.Author.Rules.{rules}
 use Rattle.replay_scan.proofs.scan.other_way.Goals as goal
 
 -- `replay_scan::scan::other_way` meets its contract. Assumes nothing.

@@ -1,7 +1,5 @@
 use mathlib.Core.Path.{refl}
-use borrow.Author.Tests.{not-true, not-false}
 use Rattle.replay_scan.proofs.ScanLaws.{own-late, own_40, own_41, own-goes}
-use borrow.Author.Rules.{rules}
 use Rattle.replay_scan.proofs.scan.own_turn.Goals as goal
 
 pub returns-then-clock-f : goal.returns-then-clock-f

@@ -1,7 +1,6 @@
 use borrow.Author.Tests.{not-true, not-false}
 use Rattle.replay_scan.proofs.ScanLaws.{ram-off, ram-wrong, ram-goes}
 use native.Mathlib.Omega.{arith}
-use borrow.Author.Rules.{rules}
 use Rattle.replay_scan.proofs.scan.ram_turn.Goals as goal
 
 pub returns-then-not-own : goal.returns-then-not-own

@@ -2,7 +2,6 @@ use Rattle.replay_scan.specs.Walk.{log_of}
 use Rattle.replay_scan.proofs.Rows.{timed_long}
 use Rattle.replay_scan.proofs.ScanLaws.{stack_size, ram_size, turn_stack, turn_ram, turn_timed, turn_other}
 use native.Mathlib.Omega.{arith}
-use borrow.Author.Rules.{rules}
 use Rattle.replay_scan.proofs.scan.record_turn.Goals as goal
 
 -- `replay_scan::scan::record_turn` meets its contract. Assumes nothing.

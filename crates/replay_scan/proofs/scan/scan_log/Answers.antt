@@ -1,12 +1,8 @@
-use Rattle.replay_scan.specs.ScanView.{Places, Few}
-use Rattle.replay_scan.proofs.Scans.{Going, going_start, scan_ends, scan_off, scan_goes, scan_over}
+use Rattle.replay_scan.proofs.Scans.{going_start, scan_ends, scan_off, scan_goes, scan_over}
 use borrow.Author.Tests.{not-true, not-false}
-use Prim.Native.Nat.{◌-◌, ◌≤◌}
+use Prim.Native.Nat.{◌-◌}
 use native.Mathlib.Omega.{arith}
 use mathlib.Core.Path.{◌≡◌, refl, ◌∙◌}
-use lib.ListN.{length}
-use borrow.Author.Rules.{rules}
-use Rattle.replay_scan.specs.Walk.{log_of}
 use Rattle.replay_scan.proofs.scan.scan_log.Goals as goal
 
 pub loop-counts-init : goal.loop-counts-init

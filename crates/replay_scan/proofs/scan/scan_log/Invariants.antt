@@ -1,11 +1,8 @@
 use Rattle.replay_scan.specs.ScanView.{Places, Few}
-use Rattle.replay_scan.proofs.Scans.{Going, going_start, scan_ends, scan_off, scan_goes, scan_over}
-use borrow.Author.Tests.{not-true, not-false}
+use Rattle.replay_scan.proofs.Scans.{Going}
 use Prim.Native.Nat.{◌-◌, ◌≤◌}
-use native.Mathlib.Omega.{arith}
-use mathlib.Core.Path.{◌≡◌, refl, ◌∙◌}
+use mathlib.Core.Path.{◌≡◌}
 use lib.ListN.{length}
-use borrow.Author.Rules.{rules}
 use Rattle.replay_scan.specs.Walk.{log_of}
 use Rattle.replay_scan.proofs.scan.scan_log.Given as goal
 

@@ -1,5 +1,4 @@
 use Rattle.replay_scan.proofs.ScanLaws.{write-elsewhere, write_over, write-room, shallow_fault, read-elsewhere, read_here}
-use borrow.Author.Rules.{rules}
 use Rattle.replay_scan.proofs.scan.stack_fault.Goals as goal
 
 -- `replay_scan::scan::stack_fault` meets its contract. Assumes nothing.

@@ -1,4 +1,3 @@
-use borrow.Author.Rules.{rules}
 use Rattle.replay_scan.proofs.scan.stack_over.Goals as goal
 
 pub returns : goal.returns

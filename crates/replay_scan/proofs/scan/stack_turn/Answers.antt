@@ -1,6 +1,5 @@
 use borrow.Author.Tests.{not-true, not-false}
 use Rattle.replay_scan.proofs.ScanLaws.{stack_off, stack-wrong, stack-movable, stack-goes}
-use borrow.Author.Rules.{rules}
 use Rattle.replay_scan.proofs.scan.stack_turn.Goals as goal
 
 pub returns-then-not-own : goal.returns-then-not-own

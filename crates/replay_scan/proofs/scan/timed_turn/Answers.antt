@@ -1,5 +1,4 @@
 use Rattle.replay_scan.proofs.ScanLaws.{timed-late, timed_41, timed-goes}
-use borrow.Author.Rules.{rules}
 use Rattle.replay_scan.proofs.scan.timed_turn.Goals as goal
 
 pub returns-then-clock-t : goal.returns-then-clock-t

@@ -1,9 +1,5 @@
 use Prim.Native.Nat.{◌-◌, ◌≤◌}
-use native.Mathlib.Omega.{arith}
-use mathlib.Core.Path.{◌≡◌}
-use borrow.Author.Rules.{rules}
 use Rattle.replay_table.specs.Merge.{Lacked}
-use Rattle.replay_table.proofs.MergeLaws.{counted_none, counted-more}
 use Rattle.replay_table.proofs.merge.count_new.Given as goal
 
 abbrev pub invariant-loop-i : goal.invariant-loop-i

@@ -1,4 +1,3 @@
-use borrow.Author.Rules.{rules}
 use Rattle.replay_table.proofs.MergeLaws.{lacks-not, lacks_one}
 use Rattle.replay_table.proofs.merge.lacks.Goals as goal
 

@@ -1,11 +1,6 @@
-use Prim.Native.Nat.{◌-◌, ◌<◌}
+use Prim.Native.Nat.{◌-◌}
 use native.Mathlib.Omega.{arith}
-use lib.ListN.{length}
-use Rattle.machine.specs.Ram.{cells}
-use Rattle.replay_table.proofs.MergeLaws.{Merges, merges_start, merges-top, merges-left, merges_turn, merges_end}
-use Rattle.replay_table.proofs.merge.merge.Reads as reads
-use Rattle.replay_table.proofs.merge.merge.Lts as lts
-use Rattle.replay_table.proofs.merge.top.Reads as top-reads
+use Rattle.replay_table.proofs.MergeLaws.{merges_start, merges-top, merges-left, merges_turn, merges_end}
 use Rattle.replay_table.proofs.merge.merge.Goals as goal
 
 pub loop-j-init : goal.loop-j-init

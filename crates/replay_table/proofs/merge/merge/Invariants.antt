@@ -1,11 +1,6 @@
-use Prim.Native.Nat.{◌-◌, ◌<◌}
-use native.Mathlib.Omega.{arith}
-use lib.ListN.{length}
+use Prim.Native.Nat.{◌-◌}
 use Rattle.machine.specs.Ram.{cells}
-use Rattle.replay_table.proofs.MergeLaws.{Merges, merges_start, merges-top, merges-left, merges_turn, merges_end}
-use Rattle.replay_table.proofs.merge.merge.Reads as reads
-use Rattle.replay_table.proofs.merge.merge.Lts as lts
-use Rattle.replay_table.proofs.merge.top.Reads as top-reads
+use Rattle.replay_table.proofs.MergeLaws.{Merges}
 use Rattle.replay_table.proofs.merge.merge.Given as goal
 
 abbrev pub invariant-loop-j : goal.invariant-loop-j

@@ -1,6 +1,5 @@
 use native.Mathlib.Omega.{arith}
 use mathlib.Core.Logic.{⊎_elim}
-use borrow.Author.Rules.{rules}
 use Rattle.replay_table.specs.Merge.{of_own, of_both, of_new}
 use Rattle.replay_table.proofs.merge.top.Goals as goal
 

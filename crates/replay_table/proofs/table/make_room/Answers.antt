@@ -1,6 +1,5 @@
 use Rattle.replay_table.proofs.TableLaws.{waits-not}
 use Prim.Native.Nat.{◌-◌}
-use borrow.Author.Rules.{rules}
 use Rattle.replay_table.specs.Table.{left}
 use Rattle.replay_table.proofs.table.make_room.Goals as goal
 

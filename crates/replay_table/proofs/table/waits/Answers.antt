@@ -1,7 +1,6 @@
 use Prim.Native.Nat.{◌-◌}
 use native.Mathlib.Omega.{arith}
 use mathlib.Core.Path.{sym}
-use borrow.Author.Rules.{rules}
 use Rattle.replay_table.proofs.GroupLaws.{apart}
 use Rattle.replay_table.proofs.TableLaws.{waits_by}
 use Rattle.replay_table.proofs.table.waits.Goals as goal

@@ -1,7 +1,6 @@
 use Prim.Native.Nat.{◌-◌}
 use native.Mathlib.Omega.{arith}
 use mathlib.Core.Path.{sym, ap, ◌∙◌, subst}
-use borrow.Author.Rules.{rules}
 use Rattle.machine.specs.Ram.{cells}
 use Rattle.machine_ram.specs.RamView.{found_of, PlacedIn}
 use Rattle.replay_table.proofs.TableLaws.{seen_here, seen-not}

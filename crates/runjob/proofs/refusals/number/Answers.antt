@@ -1,4 +1,3 @@
-use borrow.Author.Rules.{rules}
 use mathlib.Core.Path.{ap}
 use Rattle.machine.specs.Refusal.{Refusal}
 use Rattle.runjob.proofs.refusals.number.Goals as goal

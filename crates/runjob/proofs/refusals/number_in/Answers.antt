@@ -1,6 +1,5 @@
 use mathlib.Core.Path.{sym, ap, ◌∙◌}
 use Rattle.runjob.specs.Refusals.{number_in}
-use borrow.Author.Rules.{rules}
 use Rattle.runjob.proofs.refusals.number_in.Goals as goal
 
 pub returns-in-Took : goal.returns-in-Took

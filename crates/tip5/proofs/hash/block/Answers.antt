@@ -1,11 +1,10 @@
-use mathlib.Core.Path.{◌≡◌, refl, sym, ◌∙◌}
-use Prim.Native.Nat.{◌-◌, ◌≤◌}
+use mathlib.Core.Path.{refl, sym, ◌∙◌}
 use native.Mathlib.Omega.{arith}
 use borrow.Author.Rules.{rules}
-use lib.ListN.{take, length-set, length}
-use Rattle.tip5.specs.Tab.{tab, tab_zero}
+use lib.ListN.{length-set}
+use Rattle.tip5.specs.Tab.{tab_zero}
 use Rattle.tip5.proofs.Tab.{tab-more, tab-all}
-use Rattle.tip5.proofs.hash.Laws.{word_of, block-is}
+use Rattle.tip5.proofs.hash.Laws.{block-is}
 use Rattle.tip5.proofs.hash.block.Goals as goal
 
 pub loop-j-init : goal.loop-j-init

@@ -1,11 +1,8 @@
-use mathlib.Core.Path.{◌≡◌, refl, sym, ◌∙◌}
+use mathlib.Core.Path.{◌≡◌}
 use Prim.Native.Nat.{◌-◌, ◌≤◌}
-use native.Mathlib.Omega.{arith}
-use borrow.Author.Rules.{rules}
-use lib.ListN.{take, length-set, length}
-use Rattle.tip5.specs.Tab.{tab, tab_zero}
-use Rattle.tip5.proofs.Tab.{tab-more, tab-all}
-use Rattle.tip5.proofs.hash.Laws.{word_of, block-is}
+use lib.ListN.{take, length}
+use Rattle.tip5.specs.Tab.{tab}
+use Rattle.tip5.proofs.hash.Laws.{word_of}
 use Rattle.tip5.proofs.hash.block.Given as goal
 
 abbrev pub invariant-loop-j : goal.invariant-loop-j

@@ -1,7 +1,5 @@
 use mathlib.Core.List.{append-nil}
 use mathlib.Core.Path.{◌∙◌}
-use Prim.Native.Nat.{◌-◌}
-use borrow.Author.Rules.{rules}
 use Rattle.tip5.proofs.hash.digest.Goals as goal
 
 pub returns : goal.returns

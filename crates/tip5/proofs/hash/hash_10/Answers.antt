@@ -1,6 +1,4 @@
 use mathlib.Core.Path.{◌∙◌}
-use Prim.Native.Nat.{◌-◌}
-use borrow.Author.Rules.{rules}
 use Rattle.tip5.specs.Hash.{hash10_of}
 use Rattle.tip5.proofs.hash.hash_10.Goals as goal
 

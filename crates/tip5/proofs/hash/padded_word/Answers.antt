@@ -1,6 +1,4 @@
-use Prim.Native.Nat.{◌-◌}
 use native.Mathlib.Omega.{arith}
-use borrow.Author.Rules.{rules}
 use Rattle.tip5.proofs.hash.Laws.{padded-before, padded-one, padded-after}
 use Rattle.tip5.proofs.hash.padded_word.Goals as goal
 

@@ -1,5 +1,4 @@
 use mathlib.Core.Path.{refl}
-use Prim.Native.Nat.{◌-◌}
 use Rattle.tip5.specs.Matrix.{column, sum_to}
 use Rattle.tip5.specs.Split.{coefficients}
 use Rattle.tip5.specs.Tab.{tab}

@@ -1,11 +1,9 @@
 use mathlib.Core.Bool.{true, false}
 use mathlib.Core.List.{List}
-use mathlib.Core.Path.{◌≡◌, ap, ◌∙◌}
-use Prim.Native.Nat.{ℕ, ◌-◌}
+use mathlib.Core.Path.{ap, ◌∙◌}
+use Prim.Native.Nat.{ℕ}
 use native.Mathlib.Omega.{arith}
-use borrow.Author.Rules.{rules}
-use lib.ListN.{take}
-use Rattle.tip5.specs.Split.{pairs_of, dots_of, total_of}
+use Rattle.tip5.specs.Split.{dots_of, total_of}
 use Rattle.tip5.specs.Tab.{tab}
 use Rattle.tip5.proofs.matrix.Laws.{pairs_below, joinable-4, rows-4}
 use Rattle.tip5.proofs.matrix.cyclic_8.Goals as goal

@@ -1,10 +1,7 @@
-use mathlib.Core.Path.{◌≡◌, refl, sym}
-use Prim.Native.Nat.{◌-◌, ◌≤◌}
+use mathlib.Core.Path.{refl, sym}
 use native.Mathlib.Omega.{arith}
-use borrow.Author.Rules.{rules}
-use lib.ListN.{take, length-set, length}
-use Rattle.tip5.specs.Split.{dots_of}
-use Rattle.tip5.specs.Tab.{tab, tab_zero}
+use lib.ListN.{length-set}
+use Rattle.tip5.specs.Tab.{tab_zero}
 use Rattle.tip5.proofs.Tab.{tab-more, tab-first}
 use Rattle.tip5.proofs.matrix.dots.Goals as goal
 

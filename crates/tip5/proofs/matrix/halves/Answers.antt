@@ -1,11 +1,11 @@
-use mathlib.Core.Path.{◌≡◌, refl, sym}
-use Prim.Native.Nat.{ℕ, ◌-◌, ◌^◌, ◌<◌, ◌≤◌}
+use mathlib.Core.Path.{refl, sym}
+use Prim.Native.Nat.{ℕ, ◌^◌}
 use native.Mathlib.Omega.{arith}
 use borrow.Author.Rules.{rules}
 use lib.Dec.{lit<}
-use lib.ListN.{take, length-set, length}
-use Rattle.tip5.specs.Split.{Below, half_at, halves_of}
-use Rattle.tip5.specs.Tab.{tab, tab_zero}
+use lib.ListN.{length-set}
+use Rattle.tip5.specs.Split.{halves_of}
+use Rattle.tip5.specs.Tab.{tab_zero}
 use Rattle.tip5.proofs.Tab.{tab-more, tab-all, zeros_at, set_below}
 use Rattle.tip5.proofs.matrix.halves.Goals as goal
 

@@ -1,12 +1,8 @@
-use mathlib.Core.Path.{◌≡◌, refl, sym}
-use Prim.Native.Nat.{ℕ, ◌-◌, ◌^◌, ◌<◌, ◌≤◌}
-use native.Mathlib.Omega.{arith}
-use borrow.Author.Rules.{rules}
-use lib.Dec.{lit<}
-use lib.ListN.{take, length-set, length}
-use Rattle.tip5.specs.Split.{Below, half_at, halves_of}
-use Rattle.tip5.specs.Tab.{tab, tab_zero}
-use Rattle.tip5.proofs.Tab.{tab-more, tab-all, zeros_at, set_below}
+use mathlib.Core.Path.{◌≡◌}
+use Prim.Native.Nat.{◌-◌, ◌^◌, ◌≤◌}
+use lib.ListN.{take, length}
+use Rattle.tip5.specs.Split.{Below, half_at}
+use Rattle.tip5.specs.Tab.{tab}
 use Rattle.tip5.proofs.matrix.halves.Given as goal
 
 abbrev pub invariant-loop-i : goal.invariant-loop-i

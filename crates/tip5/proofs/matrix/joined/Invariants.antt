@@ -1,11 +1,8 @@
-use mathlib.Core.Path.{◌≡◌, refl, sym}
+use mathlib.Core.Path.{◌≡◌}
 use Prim.Native.Nat.{◌+◌, ◌-◌, ◌≤◌}
-use native.Mathlib.Omega.{arith}
-use borrow.Author.Rules.{rules}
-use lib.ListN.{take, length-set, length}
+use lib.ListN.{take, length}
 use Rattle.tip5.specs.Split.{joined_at}
-use Rattle.tip5.specs.Tab.{tab, tab_zero}
-use Rattle.tip5.proofs.Tab.{tab-more, tab-first}
+use Rattle.tip5.specs.Tab.{tab}
 use Rattle.tip5.proofs.matrix.joined.Given as goal
 
 abbrev pub invariant-loop-i : goal.invariant-loop-i

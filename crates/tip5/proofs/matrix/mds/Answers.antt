@@ -1,11 +1,10 @@
-use mathlib.Core.Bool.{true, false}
+use mathlib.Core.Bool.{true}
 use mathlib.Core.List.{List}
-use mathlib.Core.Path.{◌≡◌, sym, ap, ◌∙◌}
-use Prim.Native.Nat.{ℕ, ◌-◌}
+use mathlib.Core.Path.{sym, ap, ◌∙◌}
+use Prim.Native.Nat.{ℕ}
 use native.Mathlib.Omega.{arith}
-use lib.ListN.{take}
 use lib.Seq.{take_all}
-use Rattle.tip5.specs.Split.{pairs_of, dots_of, total_of, row8}
+use Rattle.tip5.specs.Split.{dots_of, total_of, row8}
 use Rattle.tip5.specs.Tab.{tab}
 use Rattle.tip5.proofs.matrix.Laws.{pairs_below, halves-sums-below, joinable-8, rows-8}
 use Rattle.tip5.proofs.matrix.mds.Goals as goal

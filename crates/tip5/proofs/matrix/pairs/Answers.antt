@@ -1,10 +1,10 @@
-use mathlib.Core.Path.{◌≡◌, refl, sym}
-use Prim.Native.Nat.{◌+◌, ◌-◌, ◌%◌, ◌≤◌}
+use mathlib.Core.Path.{refl, sym}
+use Prim.Native.Nat.{◌+◌, ◌%◌}
 use native.Mathlib.Omega.{arith}
 use borrow.Author.Rules.{rules}
-use lib.ListN.{take, length-set, length}
-use Rattle.tip5.specs.Split.{pair_at, pairs_of}
-use Rattle.tip5.specs.Tab.{tab, tab_zero}
+use lib.ListN.{length-set}
+use Rattle.tip5.specs.Split.{pairs_of}
+use Rattle.tip5.specs.Tab.{tab_zero}
 use Rattle.tip5.proofs.Tab.{tab-more, tab-all}
 use Rattle.tip5.proofs.matrix.pairs.Goals as goal
 

@@ -1,11 +1,6 @@
-use mathlib.Core.Path.{◌≡◌, sym, ap, ◌∙◌}
-use Prim.Native.Nat.{ℕ, ◌+◌, ◌*◌, ◌-◌, ◌^◌, ◌≤◌}
-use native.Mathlib.Omega.{arith}
-use borrow.Author.Rules.{rules}
-use lib.ListN.{get_or}
-use Rattle.tip5.specs.Matrix.{sum_zero}
+use mathlib.Core.Path.{◌≡◌}
+use Prim.Native.Nat.{◌*◌, ◌-◌, ◌^◌, ◌≤◌}
 use Rattle.tip5.specs.Split.{total_of}
-use Rattle.tip5.proofs.matrix.Sums.{sum_more}
 use Rattle.tip5.proofs.matrix.total.Given as goal
 
 abbrev pub invariant-loop-j : goal.invariant-loop-j

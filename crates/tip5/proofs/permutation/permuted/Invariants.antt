@@ -1,10 +1,6 @@
-use mathlib.Core.Path.{◌≡◌, sym, ap, ◌∙◌}
-use Prim.Native.Nat.{ℕ, ◌-◌, ◌≤◌}
-use native.Mathlib.Omega.{arith}
-use borrow.Author.Rules.{rules}
-use Rattle.tip5.specs.Permutation.{state_of, permutation_of}
-use Rattle.tip5.specs.Round.{round_of}
-use Rattle.tip5.proofs.permutation.Laws.{state-zero, state-more, permutation-words}
+use mathlib.Core.Path.{◌≡◌}
+use Prim.Native.Nat.{◌-◌, ◌≤◌}
+use Rattle.tip5.specs.Permutation.{state_of}
 use Rattle.tip5.proofs.permutation.permuted.Given as goal
 
 abbrev pub invariant-loop-r : goal.invariant-loop-r

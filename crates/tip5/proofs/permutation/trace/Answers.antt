@@ -1,9 +1,7 @@
 use mathlib.Core.Path.{◌≡◌, refl, sym, ap, ◌∙◌}
-use Prim.Native.Nat.{◌+◌, ◌*◌, ◌-◌, ◌≤◌}
+use Prim.Native.Nat.{◌+◌, ◌*◌}
 use native.Mathlib.Omega.{arith}
-use borrow.Author.Rules.{rules}
 use lib.ListN.{take, drop, replicate, length}
-use Rattle.tip5.specs.Permutation.{state_of, states_of}
 use Rattle.tip5.specs.Round.{round_of}
 use Rattle.tip5.specs.Words.{Words}
 use Rattle.tip5.proofs.permutation.Laws.{state-zero, state-more, trace-start, trace-more, trace-all, trace-last, trace-words}

@@ -1,5 +1,4 @@
 use mathlib.Core.Path.{refl}
-use Prim.Native.Nat.{◌-◌}
 use Rattle.tip5.specs.Round.{constants}
 use Rattle.tip5.proofs.round.constant_table.Goals as goal
 

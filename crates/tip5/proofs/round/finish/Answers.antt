@@ -1,6 +1,5 @@
 use mathlib.Core.Path.{ap, ◌∙◌}
-use Prim.Native.Nat.{ℕ, ◌-◌, ◌%◌}
-use borrow.Author.Rules.{rules}
+use Prim.Native.Nat.{ℕ, ◌%◌}
 use Rattle.field.specs.Base.{p}
 use Rattle.tip5.proofs.matrix.Laws.{carried}
 use Rattle.tip5.proofs.round.finish.Goals as goal

@@ -1,15 +1,15 @@
 use mathlib.Core.Bool.{true, false}
-use mathlib.Core.Path.{◌≡◌, refl, sym, ap, ◌∙◌}
-use Prim.Native.Nat.{ℕ, ◌+◌, ◌*◌, ◌-◌, ◌%◌, ◌^◌, ◌≤◌}
+use mathlib.Core.Path.{refl, sym, ap, ◌∙◌}
+use Prim.Native.Nat.{ℕ, ◌+◌, ◌*◌, ◌%◌, ◌^◌}
 use native.Mathlib.Omega.{arith}
 use borrow.Author.Rules.{rules}
-use lib.ListN.{take, length-set, length}
+use lib.ListN.{length-set}
 use Rattle.field.specs.Base.{p}
 use Rattle.tip5.specs.Round.{constant_of}
-use Rattle.tip5.specs.Tab.{tab, tab_zero}
+use Rattle.tip5.specs.Tab.{tab_zero}
 use Rattle.tip5.proofs.Tab.{tab-more, tab-all}
 use Rattle.tip5.proofs.matrix.Laws.{half-row, half-row-below, by-halves}
-use Rattle.tip5.proofs.round.Laws.{summed, summed-is}
+use Rattle.tip5.proofs.round.Laws.{summed-is}
 use Rattle.tip5.proofs.round.linear_layer.Goals as goal
 
 pub mds-lo-requires : goal.mds-lo-requires

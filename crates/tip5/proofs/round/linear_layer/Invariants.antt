@@ -1,15 +1,8 @@
-use mathlib.Core.Bool.{true, false}
-use mathlib.Core.Path.{◌≡◌, refl, sym, ap, ◌∙◌}
-use Prim.Native.Nat.{ℕ, ◌+◌, ◌*◌, ◌-◌, ◌%◌, ◌^◌, ◌≤◌}
-use native.Mathlib.Omega.{arith}
-use borrow.Author.Rules.{rules}
-use lib.ListN.{take, length-set, length}
-use Rattle.field.specs.Base.{p}
-use Rattle.tip5.specs.Round.{constant_of}
-use Rattle.tip5.specs.Tab.{tab, tab_zero}
-use Rattle.tip5.proofs.Tab.{tab-more, tab-all}
-use Rattle.tip5.proofs.matrix.Laws.{half-row, half-row-below, by-halves}
-use Rattle.tip5.proofs.round.Laws.{summed, summed-is}
+use mathlib.Core.Path.{◌≡◌}
+use Prim.Native.Nat.{◌-◌, ◌≤◌}
+use lib.ListN.{take, length}
+use Rattle.tip5.specs.Tab.{tab}
+use Rattle.tip5.proofs.round.Laws.{summed}
 use Rattle.tip5.proofs.round.linear_layer.Given as goal
 
 abbrev pub invariant-loop-i : goal.invariant-loop-i

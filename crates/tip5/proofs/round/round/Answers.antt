@@ -1,6 +1,4 @@
 use mathlib.Core.Path.{◌∙◌}
-use Prim.Native.Nat.{◌-◌}
-use borrow.Author.Rules.{rules}
 use Rattle.tip5.specs.Round.{round_of}
 use Rattle.tip5.proofs.round.round.Goals as goal
 

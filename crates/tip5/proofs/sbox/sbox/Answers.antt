@@ -1,5 +1,3 @@
-use Prim.Native.Nat.{◌-◌}
-use borrow.Author.Rules.{rules}
 use borrow.Author.Tests.{lt-ltb, le-ltb}
 use Rattle.tip5.specs.Sbox.{sbox_of}
 use Rattle.tip5.proofs.sbox.sbox.Goals as goal

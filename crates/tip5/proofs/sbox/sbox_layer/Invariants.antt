@@ -1,11 +1,8 @@
-use mathlib.Core.Path.{◌≡◌, refl, sym}
+use mathlib.Core.Path.{◌≡◌}
 use Prim.Native.Nat.{◌-◌, ◌≤◌}
-use native.Mathlib.Omega.{arith}
-use borrow.Author.Rules.{rules}
-use lib.ListN.{take, length-set, length}
-use Rattle.tip5.specs.Sbox.{sbox_at, sbox_layer_of}
-use Rattle.tip5.specs.Tab.{tab, tab_zero}
-use Rattle.tip5.proofs.Tab.{tab-more, tab-all}
+use lib.ListN.{take, length}
+use Rattle.tip5.specs.Sbox.{sbox_at}
+use Rattle.tip5.specs.Tab.{tab}
 use Rattle.tip5.proofs.sbox.sbox_layer.Given as goal
 
 abbrev pub invariant-loop-i : goal.invariant-loop-i

@@ -1,5 +1,3 @@
-use Prim.Native.Nat.{◌-◌}
-use borrow.Author.Rules.{rules}
 use Rattle.field.specs.Base.{p}
 use Rattle.field.proofs.Remainder.{rem, pow_one, pow-next}
 use Rattle.tip5.proofs.sbox.seventh.Goals as goal

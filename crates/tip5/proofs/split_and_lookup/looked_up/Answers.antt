@@ -1,5 +1,3 @@
-use Prim.Native.Nat.{◌-◌}
-use borrow.Author.Rules.{rules}
 use Rattle.tip5.proofs.split_and_lookup.Laws.{looked-up-is}
 use Rattle.tip5.proofs.split_and_lookup.looked_up.Goals as goal
 

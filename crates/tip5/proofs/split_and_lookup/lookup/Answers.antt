@@ -1,6 +1,4 @@
 use mathlib.Core.Path.{◌∙◌}
-use Prim.Native.Nat.{◌-◌}
-use borrow.Author.Rules.{rules}
 use Rattle.tip5.proofs.split_and_lookup.Laws.{lookups-at}
 use Rattle.tip5.proofs.split_and_lookup.lookup.Goals as goal
 

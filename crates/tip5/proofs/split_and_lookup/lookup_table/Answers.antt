@@ -1,5 +1,4 @@
 use mathlib.Core.Path.{refl}
-use Prim.Native.Nat.{◌-◌}
 use Rattle.tip5.specs.SplitAndLookup.{lookup_of, lookups}
 use Rattle.tip5.specs.Tab.{tab}
 use Rattle.tip5.proofs.split_and_lookup.lookup_table.Goals as goal

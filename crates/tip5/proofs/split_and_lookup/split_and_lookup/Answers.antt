@@ -1,6 +1,5 @@
 use mathlib.Core.Path.{ap, ◌∙◌}
-use Prim.Native.Nat.{ℕ, ◌-◌}
-use borrow.Author.Rules.{rules}
+use Prim.Native.Nat.{ℕ}
 use Rattle.field.specs.Base.{neg_p, mul_p}
 use Rattle.tip5.specs.SplitAndLookup.{looked_up, inverse64, split_and_lookup}
 use Rattle.tip5.proofs.split_and_lookup.Laws.{scaled-is, unscaled}

@@ -1,5 +1,3 @@
-use Prim.Native.Nat.{◌-◌}
-use borrow.Author.Rules.{rules}
 use Rattle.tip5.proofs.sponge.permutation.Goals as goal
 
 pub returns : goal.returns

@@ -1,8 +1,6 @@
 use mathlib.Core.Path.{◌≡◌, refl, ap, ◌∙◌}
-use Prim.Native.Nat.{◌-◌, ◌≤◌}
 use native.Mathlib.Omega.{arith}
-use borrow.Author.Rules.{rules}
-use lib.ListN.{length-set, length}
+use lib.ListN.{length-set}
 use lib.Seq.{paste, paste-zero}
 use Rattle.tip5.proofs.words.Laws.{copied}
 use Rattle.tip5.proofs.words.copy.Goals as goal

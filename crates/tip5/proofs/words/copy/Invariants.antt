@@ -1,10 +1,7 @@
-use mathlib.Core.Path.{◌≡◌, refl, ap, ◌∙◌}
+use mathlib.Core.Path.{◌≡◌}
 use Prim.Native.Nat.{◌-◌, ◌≤◌}
-use native.Mathlib.Omega.{arith}
-use borrow.Author.Rules.{rules}
-use lib.ListN.{length-set, length}
-use lib.Seq.{paste, paste-zero}
-use Rattle.tip5.proofs.words.Laws.{copied}
+use lib.ListN.{length}
+use lib.Seq.{paste}
 use Rattle.tip5.proofs.words.copy.Given as goal
 
 abbrev pub invariant-loop-i : goal.invariant-loop-i

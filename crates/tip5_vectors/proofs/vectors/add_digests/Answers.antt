@@ -1,12 +1,11 @@
-use mathlib.Core.List.{List}
-use mathlib.Core.Path.{◌≡◌, refl, sym}
-use Prim.Native.Nat.{ℕ, ◌-◌, ◌<◌, ◌≤◌}
+use mathlib.Core.Path.{refl, sym}
+use Prim.Native.Nat.{ℕ, ◌-◌, ◌<◌}
 use native.Mathlib.Omega.{arith}
 use borrow.Author.Rules.{rules}
 use lib.Dec.{lit<}
-use lib.ListN.{take, get_or, length-set, length}
-use Rattle.field.specs.Base.{p, add_p}
-use Rattle.tip5.specs.Tab.{tab, tab_zero}
+use lib.ListN.{length-set}
+use Rattle.field.specs.Base.{p}
+use Rattle.tip5.specs.Tab.{tab_zero}
 use Rattle.field.proofs.Ring.{below}
 use Rattle.tip5.proofs.Tab.{tab-more, tab-all, tab-below}
 use Rattle.tip5_vectors.proofs.vectors.add_digests.Invariants.{sums}

@@ -1,14 +1,9 @@
 use mathlib.Core.List.{List}
-use mathlib.Core.Path.{◌≡◌, refl, sym}
-use Prim.Native.Nat.{ℕ, ◌-◌, ◌<◌, ◌≤◌}
-use native.Mathlib.Omega.{arith}
-use borrow.Author.Rules.{rules}
-use lib.Dec.{lit<}
-use lib.ListN.{take, get_or, length-set, length}
-use Rattle.field.specs.Base.{p, add_p}
-use Rattle.tip5.specs.Tab.{tab, tab_zero}
-use Rattle.field.proofs.Ring.{below}
-use Rattle.tip5.proofs.Tab.{tab-more, tab-all, tab-below}
+use mathlib.Core.Path.{◌≡◌}
+use Prim.Native.Nat.{ℕ, ◌-◌, ◌≤◌}
+use lib.ListN.{take, get_or, length}
+use Rattle.field.specs.Base.{add_p}
+use Rattle.tip5.specs.Tab.{tab}
 use Rattle.tip5_vectors.proofs.vectors.add_digests.Given as goal
 
 -- `tip5_vectors::vectors::add_digests` meets its contract. Assumes nothing.

@@ -1,7 +1,6 @@
 use mathlib.Core.Path.{sym}
 use Prim.Native.Nat.{◌-◌}
 use native.Mathlib.Omega.{arith}
-use borrow.Author.Rules.{rules}
 use lib.Seq.{length-take-le}
 use Rattle.tip5.proofs.hash.Laws.{hash-varlen-words}
 use Rattle.tip5_vectors.proofs.vectors.digest_of.Goals as goal

@@ -1,8 +1,6 @@
-use Prim.Native.Nat.{ℕ, ◌-◌, ◌<◌, ◌≤◌}
+use Prim.Native.Nat.{ℕ, ◌-◌, ◌<◌}
 use native.Mathlib.Omega.{arith}
-use borrow.Author.Rules.{rules}
 use lib.Dec.{lit<}
-use Rattle.tip5.specs.Words.{Words}
 use Rattle.tip5.proofs.Tab.{zeros_at}
 use Rattle.tip5_vectors.proofs.vectors.varlen_sum.Goals as goal
 

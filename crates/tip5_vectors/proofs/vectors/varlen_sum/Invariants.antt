@@ -1,9 +1,5 @@
-use Prim.Native.Nat.{ℕ, ◌-◌, ◌<◌, ◌≤◌}
-use native.Mathlib.Omega.{arith}
-use borrow.Author.Rules.{rules}
-use lib.Dec.{lit<}
+use Prim.Native.Nat.{◌-◌, ◌≤◌}
 use Rattle.tip5.specs.Words.{Words}
-use Rattle.tip5.proofs.Tab.{zeros_at}
 use Rattle.tip5_vectors.proofs.vectors.varlen_sum.Given as goal
 
 abbrev pub invariant-loop-n : goal.invariant-loop-n

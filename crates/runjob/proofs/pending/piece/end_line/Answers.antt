@@ -7,7 +7,6 @@ use Rattle.job.proofs.ListingLaws.{put-none}
 use Rattle.job.specs.Printed.{end_line}
 use Rattle.machine_steps.specs.RanView.{ending_in}
 use Rattle.runjob.proofs.PieceLaws.{put_wide}
-use borrow.Author.Rules.{rules}
 use Rattle.runjob.proofs.pending.piece.end_line.Goals as goal
 
 pub returns-in-Halted : goal.returns-in-Halted

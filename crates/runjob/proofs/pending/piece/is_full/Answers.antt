@@ -1,4 +1,3 @@
-use borrow.Author.Rules.{rules}
 use Rattle.runjob.proofs.pending.piece.is_full.Goals as goal
 
 pub returns-in-Halted : goal.returns-in-Halted

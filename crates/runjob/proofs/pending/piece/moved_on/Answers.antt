@@ -1,4 +1,3 @@
-use borrow.Author.Rules.{rules}
 use Rattle.runjob.proofs.pending.piece.moved_on.Goals as goal
 
 pub returns : goal.returns

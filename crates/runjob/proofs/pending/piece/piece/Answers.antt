@@ -2,7 +2,6 @@ use lib.Seq.{length-take-le}
 use Rattle.runjob.proofs.PieceLaws.{piece-holds, piece_counts, piece-writes, refusal-writes}
 use native.Mathlib.Omega.{arith}
 use mathlib.Core.Path.{sym}
-use borrow.Author.Rules.{rules}
 use Rattle.runjob.proofs.pending.piece.piece.Goals as goal
 
 pub returns-then-job-ne0 : goal.returns-then-job-ne0

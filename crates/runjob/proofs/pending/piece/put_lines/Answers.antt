@@ -4,7 +4,6 @@ use Rattle.runjob.proofs.PieceLaws.{lines-full, lines-ended}
 use Prim.Native.Nat.{◌+◌}
 use native.Mathlib.Omega.{arith}
 use mathlib.Core.Path.{sym, ◌∙◌}
-use borrow.Author.Rules.{rules}
 use Rattle.runjob.proofs.pending.piece.put_lines.Goals as goal
 
 -- `runjob::pending::piece::put_lines` meets its contract. Assumes nothing.
