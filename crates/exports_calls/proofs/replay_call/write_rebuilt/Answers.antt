@@ -1,4 +1,4 @@
-use mathlib.Core.List.{◌∷◌}
+use mathlib.Core.List.{[], ◌∷◌}
 use mathlib.Core.Path.{refl}
 use Rattle.exports_words.proofs.ReportLaws.{wholly}
 use Rattle.exports_calls.proofs.replay_call.write_rebuilt.Goals as goal

@@ -1,6 +1,6 @@
 -- `machine_decide::decide::act` meets its contract: each arm is its instruction, and the rest is no instruction.
 use mathlib.Core.Path.{refl, sym, ap, ◌∙◌}
-use mathlib.Core.List.{◌∷◌}
+use mathlib.Core.List.{[], ◌∷◌}
 use Rattle.machine.specs.Refusal.{refusal_of}
 use Rattle.machine.specs.Instruction.{Decoded, table, decode}
 use Rattle.machine.specs.Decide.{effect_of}

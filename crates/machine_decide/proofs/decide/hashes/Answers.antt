@@ -1,5 +1,5 @@
 use mathlib.Core.Path.{sym}
-use mathlib.Core.List.{◌∷◌}
+use mathlib.Core.List.{[], ◌∷◌}
 use Rattle.machine_decide.specs.DecideView.{hashes}
 use Rattle.machine_decide.proofs.DecideLaws.{one_is, one_not}
 use Rattle.machine_decide.proofs.decide.hashes.Goals as goal

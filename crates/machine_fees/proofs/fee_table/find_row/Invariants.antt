@@ -1,3 +1,4 @@
+use mathlib.Core.List.{[]}
 -- `machine_fees::fee_table::find_row` meets its contract: count and last row of the rows so far.
 use Prim.Native.Nat.{◌-◌, ◌≤◌}
 use lib.ListN.{length}

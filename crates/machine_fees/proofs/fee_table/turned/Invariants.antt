@@ -1,3 +1,4 @@
+use mathlib.Core.List.{[]}
 -- `machine_fees::fee_table::turned` meets its contract: no such row so far, or the loop has stopped.
 use mathlib.Core.Path.{◌≡◌}
 use Prim.Native.Nat.{◌-◌, ◌≤◌}

@@ -1,6 +1,6 @@
 -- `machine_helpers::helper_variables::of_slot` meets its contract: each arm is its instructions, and the others have none.
 use mathlib.Core.Path.{◌≡◌, refl, sym, ap}
-use mathlib.Core.List.{List, ◌∷◌}
+use mathlib.Core.List.{[], List, ◌∷◌}
 use Prim.Native.Nat.{ℕ}
 use lib.ListN.{length}
 use Rattle.machine.specs.Instruction.{table, decode}

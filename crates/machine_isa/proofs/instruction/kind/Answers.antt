@@ -1,5 +1,5 @@
 use mathlib.Core.Path.{refl, sym}
-use mathlib.Core.List.{◌∷◌}
+use mathlib.Core.List.{[], ◌∷◌}
 use Rattle.machine.specs.Instruction.{table, decode}
 use Rattle.machine_isa.specs.InstructionView.{kind_in}
 use Rattle.machine_isa.proofs.TableLaws.{arm, rest}

@@ -1,7 +1,7 @@
 -- `machine_rows::processor_row::write_columns` meets its contract: where it stores, the list is as long as ever, whatever was stored before. Assumes
 use native.Mathlib.Omega.{arith}
 use mathlib.Core.Path.{◌≡◌}
-use mathlib.Core.List.{◌∷◌}
+use mathlib.Core.List.{[], ◌∷◌}
 use lib.ListN.{length}
 use lib.Seq.{lt-length-sets}
 use borrow.Author.Rules.{rules}
