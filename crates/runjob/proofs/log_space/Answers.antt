@@ -2,6 +2,5 @@ use Prim.Native.Nat.{ℕ}
 use lib.ListN.{length-replicate}
 use Rattle.runjob.proofs.log_space.Goals as goal
 
--- `runjob::log_space` meets its contract. Assumes nothing.
 pub returns : goal.returns
 returns c = length-replicate {A = ℕ} 524288 0

@@ -2,6 +2,5 @@ use Prim.Native.Nat.{ℕ}
 use lib.ListN.{length-replicate}
 use Rattle.runjob.proofs.text_space.Goals as goal
 
--- `runjob::text_space` meets its contract. Assumes nothing.
 pub returns : goal.returns
 returns c = length-replicate {A = ℕ} 1675360 0

@@ -2,7 +2,6 @@ use borrow.Author.Tests.{lt-ltb, le-ltb}
 use Rattle.choices.specs.Choice.{above_of}
 use Rattle.choices.proofs.numbers.above.Goals as goal
 
--- `choices::numbers::above` meets its contract. Assumes nothing.
 pub returns-then-b-a : goal.returns-then-b-a
 unfolding above_of
 returns-then-b-a c = simp (lt-ltb _ _ c.if-b-a.true)

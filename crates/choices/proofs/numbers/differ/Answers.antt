@@ -2,7 +2,6 @@ use borrow.Author.Tests.{eq-eqb, ne_eqb}
 use Rattle.choices.specs.Choice.{differ_of}
 use Rattle.choices.proofs.numbers.differ.Goals as goal
 
--- `choices::numbers::differ` meets its contract. Assumes nothing.
 pub returns-then-a-b : goal.returns-then-a-b
 unfolding differ_of
 returns-then-a-b c = simp (eq-eqb _ _ c.if-a-b.true)

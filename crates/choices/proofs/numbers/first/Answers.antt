@@ -2,7 +2,6 @@ use borrow.Author.Tests.{eq-eqb, ne_eqb}
 use Rattle.choices.specs.Choice.{first_of}
 use Rattle.choices.proofs.numbers.first.Goals as goal
 
--- `choices::numbers::first` meets its contract. Assumes nothing.
 pub returns-then-a-eq0 : goal.returns-then-a-eq0
 unfolding first_of
 returns-then-a-eq0 c = simp (eq-eqb _ _ c.if-a-eq0.true)

@@ -1,7 +1,6 @@
 use Rattle.exports_calls.proofs.ReplayCallLaws.{replay_misfits, replay_called}
 use Rattle.exports_calls.proofs.replay_call.replay_call.Goals as goal
 
--- `exports_calls::replay_call::replay_call` meets its contract. Assumes nothing.
 pub returns-then-rebuilt-ne3 : goal.returns-then-rebuilt-ne3
 returns-then-rebuilt-ne3 c = replay_misfits _ _ _ _ _ _ c.if-rebuilt-ne3.true
 

@@ -2,7 +2,6 @@ use mathlib.Core.Path.{sym, ◌∙◌}
 use Rattle.job.proofs.FrameLaws.{whole-none, whole-other, whole-short, whole_is}
 use Rattle.job.proofs.frame.whole_at.Goals as goal
 
--- `job::frame::whole_at` meets its contract. Assumes nothing.
 pub returns-then-n-eq0 : goal.returns-then-n-eq0
 returns-then-n-eq0 c = whole-none _ _ c.if-n-eq0.true
 

@@ -3,7 +3,6 @@ use Rattle.job.specs.JobFile.{pieces_of}
 use Rattle.job.proofs.JobFileLaws.{wanted_addresses, wanted_values, filled-count, column-same}
 use Rattle.job.proofs.job_file.cells_of.Goals as goal
 
--- `job::job_file::cells_of` meets its contract. Assumes nothing.
 pub column-requires : goal.column-requires
 column-requires c = wanted_addresses c.args.file.now _ c.requires.0 c.requires.1
 

@@ -5,7 +5,6 @@ use Rattle.job.specs.JobFile.{length_in}
 use Rattle.job.proofs.JobFileLaws.{length-unknown}
 use Rattle.job.proofs.job_file.length_of.Goals as goal
 
--- `job::job_file::length_of` meets its contract. Assumes nothing.
 pub returns-in-11 : goal.returns-in-11
 unfolding length_in
 returns-in-11 c = rw c.in-11.is (refl, omega arith)

@@ -1,7 +1,6 @@
 use borrow.Author.Tests.{eq-eqb, ne_eqb}
 use Rattle.job.proofs.job_file.same.Goals as goal
 
--- `job::job_file::same` meets its contract. Assumes nothing.
 pub returns-then-a-b : goal.returns-then-a-b
 returns-then-a-b c = rw (eq-eqb _ _ c.if-a-b.true)
 

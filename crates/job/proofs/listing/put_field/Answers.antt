@@ -4,7 +4,6 @@ use Rattle.job.specs.Listing.{field_of}
 use Rattle.job.proofs.ListingLaws.{decimal_few, put-more}
 use Rattle.job.proofs.listing.put_field.Goals as goal
 
--- `job::listing::put_field` meets its contract. Assumes nothing.
 pub put_decimal-next-requires : goal.put_decimal-next-requires
 put_decimal-next-requires c = omega (arith, decimal_few c.args.v)
 

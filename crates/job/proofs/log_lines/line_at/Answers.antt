@@ -6,7 +6,6 @@ use Rattle.job.proofs.LogLinesLaws.{whole-place, place_four, line-none}
 use Rattle.job.proofs.ListingLaws.{put_as, put-none}
 use Rattle.job.proofs.log_lines.line_at.Goals as goal
 
--- `job::log_lines::line_at` meets its contract. Assumes nothing.
 pub kind_at-requires : goal.kind_at-requires
 kind_at-requires c =
     let a = c.args in

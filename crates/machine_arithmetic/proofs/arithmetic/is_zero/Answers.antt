@@ -3,7 +3,6 @@ use borrow.Author.Tests.{eq-eqb, ne_eqb}
 use Prim.Native.Nat.{◌-◌}
 use Rattle.machine_arithmetic.proofs.arithmetic.is_zero.Goals as goal
 
--- `machine_arithmetic::arithmetic::is_zero` meets its contract. Assumes nothing.
 pub returns-then-x-eq0-2 : goal.returns-then-x-eq0-2
 unfolding zero_x
 returns-then-x-eq0-2 c = rw (eq-eqb _ _ c.if-x-eq0.true, eq-eqb _ _ c.if-x-eq0-2.true)

@@ -4,7 +4,6 @@ use Rattle.machine_decide.specs.DecideView.{hashes}
 use Rattle.machine_decide.proofs.DecideLaws.{one_is, one_not}
 use Rattle.machine_decide.proofs.decide.hashes.Goals as goal
 
--- `machine_decide::decide::hashes` meets its contract. Assumes nothing.
 pub returns-in-18 : goal.returns-in-18
 unfolding hashes
 returns-in-18 c = sym (one_is (18 ∷ 34 ∷ 36 ∷ 40 ∷ 44 ∷ 48 ∷ 56 ∷ []) _ c.in-18.is)

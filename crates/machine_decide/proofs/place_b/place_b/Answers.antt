@@ -6,7 +6,6 @@ use Rattle.machine_decide.specs.PlaceBView.{place_b}
 use Rattle.machine_decide.proofs.PlaceBLaws.{grown_few, shrunk_few, b_here, shallow-is, shallow-not}
 use Rattle.machine_decide.proofs.place_b.place_b.Goals as goal
 
--- `machine_decide::place_b::place_b` meets its contract. Assumes nothing.
 pub returns-then-state : goal.returns-then-state
 unfolding place_b
 returns-then-state c = rw c.if-state.true

@@ -2,7 +2,6 @@ use mathlib.Core.Path.{refl}
 use Rattle.machine_effects.specs.EffectView.{decision_of}
 use Rattle.machine_effects.proofs.effect.act.Goals as goal
 
--- `machine_effects::effect::act` meets its contract. Assumes nothing.
 pub returns : goal.returns
 unfolding decision_of
 returns c = refl

@@ -1,7 +1,6 @@
 use borrow.Author.Tests.{lt-ltb, le-ltb}
 use Rattle.machine_fees.proofs.fee_table.covers.Goals as goal
 
--- `machine_fees::fee_table::covers` meets its contract. Assumes nothing.
 pub returns-then-opcode-lowest : goal.returns-then-opcode-lowest
 returns-then-opcode-lowest c = simp (lt-ltb _ _ c.if-opcode-lowest.true)
 

@@ -1,5 +1,5 @@
-use mathlib.Core.List.{[]}
 -- `machine_fees::fee_table::find_row` meets its contract: count and last row of the rows so far.
+use mathlib.Core.List.{[]}
 use Prim.Native.Nat.{◌-◌, ◌≤◌}
 use lib.ListN.{length}
 use Rattle.machine.specs.FeeTable.{fee_table}

@@ -1,7 +1,6 @@
 use borrow.Author.Tests.{lt-ltb, le-ltb}
 use Rattle.machine_fees.proofs.fee_table.first_fault.Goals as goal
 
--- `machine_fees::fee_table::first_fault` meets its contract. Assumes nothing.
 pub returns-then-gap-lt128 : goal.returns-then-gap-lt128
 returns-then-gap-lt128 c = simp (lt-ltb _ _ c.if-gap-lt128.true)
 

@@ -1,7 +1,6 @@
 use borrow.Author.Tests.{lt-ltb, le-ltb}
 use Rattle.machine_fees.proofs.fee_table.lowest_of.Goals as goal
 
--- `machine_fees::fee_table::lowest_of` meets its contract. Assumes nothing.
 pub returns-then-so_far-lt128 : goal.returns-then-so_far-lt128
 returns-then-so_far-lt128 c = simp (lt-ltb _ _ c.if-so_far-lt128.true)
 

@@ -1,5 +1,5 @@
-use mathlib.Core.List.{[]}
 -- `machine_fees::fee_table::turned` meets its contract: no such row so far, or the loop has stopped.
+use mathlib.Core.List.{[]}
 use mathlib.Core.Path.{◌≡◌}
 use Prim.Native.Nat.{◌-◌, ◌≤◌}
 use lib.ListN.{length}

@@ -5,7 +5,6 @@ use Rattle.machine_isa.specs.InstructionView.{change_in}
 use Rattle.machine_isa.proofs.TableLaws.{arm, rest}
 use Rattle.machine_isa.proofs.instruction.change.Goals as goal
 
--- `machine_isa::instruction::change` meets its contract. Assumes nothing.
 pub returns-in-0 : goal.returns-in-0
 unfolding decode table
 returns-in-0 c = sym (arm (λ op. change_in (decode op)) 0 (0 ∷ 8 ∷ 12 ∷ 16 ∷ 20 ∷ 24 ∷ 28 ∷ 32 ∷ 36 ∷ 40 ∷ 44 ∷ 48 ∷ 64 ∷ 72 ∷ 80 ∷ 88 ∷ []) tt _ c.in-0.is)

@@ -5,7 +5,6 @@ use Rattle.machine_isa.specs.InstructionView.{kind_in}
 use Rattle.machine_isa.proofs.TableLaws.{arm, rest}
 use Rattle.machine_isa.proofs.instruction.kind.Goals as goal
 
--- `machine_isa::instruction::kind` meets its contract. Assumes nothing.
 pub returns-in-0 : goal.returns-in-0
 unfolding decode table
 returns-in-0 c = sym (arm (λ op. kind_in (decode op)) 0 (0 ∷ 2 ∷ 4 ∷ 6 ∷ 8 ∷ 10 ∷ 12 ∷ 14 ∷ 16 ∷ 18 ∷ 20 ∷ 22 ∷ []) tt _ c.in-0.is)

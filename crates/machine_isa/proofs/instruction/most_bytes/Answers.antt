@@ -2,7 +2,6 @@ use borrow.Author.Tests.{eq-eqb, ne_eqb}
 use Rattle.machine.specs.Lengths.{clock_bytes, most_bytes}
 use Rattle.machine_isa.proofs.instruction.most_bytes.Goals as goal
 
--- `machine_isa::instruction::most_bytes` meets its contract. Assumes nothing.
 pub returns-then-revision-eq2 : goal.returns-then-revision-eq2
 unfolding most_bytes clock_bytes
 returns-then-revision-eq2 c = simp (eq-eqb _ _ c.if-revision-eq2.true)

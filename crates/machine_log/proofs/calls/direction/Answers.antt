@@ -1,7 +1,6 @@
 use borrow.Author.Tests.{lt-ltb, le-ltb}
 use Rattle.machine_log.proofs.calls.direction.Goals as goal
 
--- `machine_log::calls::direction` meets its contract. Assumes nothing.
 pub returns-then-depth-after : goal.returns-then-depth-after
 returns-then-depth-after c = rw (lt-ltb _ _ c.if-depth-after.true)
 

@@ -5,7 +5,6 @@ use Rattle.machine_log.specs.Logged.{u32_bytes}
 use Rattle.machine_log.proofs.Logged.{wrote_none, wrote-more, u32s-none, u32s_one, u32s_two, bytes-none, bytes_one, bytes_two_calls, bytes_some}
 use Rattle.machine_log.proofs.calls.log_u32s.Goals as goal
 
--- `machine_log::calls::log_u32s` meets its contract. Assumes nothing.
 pub returns-then-n-eq0 : goal.returns-then-n-eq0
 returns-then-n-eq0 c =
     let a = c.args in

@@ -1,7 +1,6 @@
 use borrow.Author.Tests.{eq-eqb, ne_eqb}
 use Rattle.machine_log.proofs.kinds.either_length.Goals as goal
 
--- `machine_log::kinds::either_length` meets its contract. Assumes nothing.
 pub returns-then-kind-tip5 : goal.returns-then-kind-tip5
 returns-then-kind-tip5 c =
     rw (eq-eqb _ _ c.if-kind-tip5.true)

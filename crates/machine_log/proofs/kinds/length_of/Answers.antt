@@ -3,7 +3,6 @@ use Rattle.machine.specs.Records.{length_of}
 use mathlib.Core.Path.{◌∙◌}
 use Rattle.machine_log.proofs.kinds.length_of.Goals as goal
 
--- `machine_log::kinds::length_of` meets its contract. Assumes nothing.
 pub returns-then-kind-eq1 : goal.returns-then-kind-eq1
 unfolding length_of
 returns-then-kind-eq1 c =

@@ -2,7 +2,6 @@ use borrow.Author.Tests.{lt-ltb, le-ltb}
 use Rattle.choices.specs.Choice.{first_of, above_of}
 use Rattle.machine_place_a.proofs.checks.longer.Goals as goal
 
--- `machine_place_a::checks::longer` meets its contract. Assumes nothing.
 pub returns-then-len-gt16777216 : goal.returns-then-len-gt16777216
 unfolding first_of above_of
 returns-then-len-gt16777216 c = simp (lt-ltb _ _ c.if-len-gt16777216.true)

@@ -2,7 +2,6 @@ use borrow.Author.Tests.{lt-ltb, le-ltb}
 use Rattle.choices.specs.Choice.{first_of, above_of}
 use Rattle.machine_place_a.proofs.checks.past.Goals as goal
 
--- `machine_place_a::checks::past` meets its contract. Assumes nothing.
 pub returns-then-most-count : goal.returns-then-most-count
 unfolding first_of above_of
 returns-then-most-count c = simp (lt-ltb _ _ c.if-most-count.true)

@@ -2,7 +2,6 @@ use borrow.Author.Tests.{eq-eqb, ne_eqb}
 use Rattle.choices.specs.Choice.{first_of, differ_of}
 use Rattle.machine_place_a.proofs.checks.unequal.Goals as goal
 
--- `machine_place_a::checks::unequal` meets its contract. Assumes nothing.
 pub returns-then-a-b : goal.returns-then-a-b
 unfolding first_of differ_of
 returns-then-a-b c = simp (eq-eqb _ _ c.if-a-b.true)

@@ -3,7 +3,6 @@ use Rattle.choices.specs.Choice.{first_of}
 use Rattle.machine.specs.PlaceA.{revision4}
 use Rattle.machine_place_a.proofs.checks.unknown_revision.Goals as goal
 
--- `machine_place_a::checks::unknown_revision` meets its contract. Assumes nothing.
 pub returns-then-revision-eq1 : goal.returns-then-revision-eq1
 unfolding first_of revision4
 returns-then-revision-eq1 c = simp (eq-eqb _ _ c.if-revision-eq1.true)

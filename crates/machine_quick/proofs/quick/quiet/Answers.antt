@@ -2,7 +2,6 @@ use mathlib.Core.Path.{refl}
 use Rattle.machine_quick.proofs.QuickLaws.{quiet-not, quiet-last}
 use Rattle.machine_quick.proofs.quick.quiet.Goals as goal
 
--- `machine_quick::quick::quiet` meets its contract. Assumes nothing.
 pub returns-then-e : goal.returns-then-e
 returns-then-e c = quiet-not _
 

@@ -3,7 +3,6 @@ use Rattle.machine_ram.specs.RamView.{Above}
 use Rattle.machine_ram.proofs.RamView.{guess_wrong, guess_by}
 use Rattle.machine_ram.proofs.near.right.Goals as goal
 
--- `machine_ram::near::right` meets its contract. Assumes nothing.
 pub returns-then-count-guess : goal.returns-then-count-guess
 returns-then-count-guess c = guess_wrong _ _ _ _
 

@@ -1,7 +1,6 @@
 use Rattle.std.proofs.Common.{le-ltb, lt-ltb}
 use Rattle.machine_ram.proofs.ram.toward.Goals as goal
 
--- `machine_ram::ram::toward` meets its contract. Assumes nothing.
 pub returns-then-word-address : goal.returns-then-word-address
 returns-then-word-address c = simp (lt-ltb _ _ c.if-word-address.true)
 

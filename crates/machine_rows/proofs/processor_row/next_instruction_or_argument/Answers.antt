@@ -2,7 +2,6 @@ use mathlib.Core.Path.{sym, ◌∙◌}
 use borrow.Author.Tests.{lt-ltb, le-ltb, eq-eqb, ne_eqb}
 use Rattle.machine_rows.proofs.processor_row.next_instruction_or_argument.Goals as goal
 
--- `machine_rows::processor_row::next_instruction_or_argument` meets its contract. Assumes nothing.
 pub returns-then-opcodes-at : goal.returns-then-opcodes-at
 returns-then-opcodes-at c =
     rw (le-ltb _ _ c.if-opcodes-at.true)

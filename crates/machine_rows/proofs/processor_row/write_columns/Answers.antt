@@ -8,8 +8,6 @@ use borrow.Author.Rules.{rules}
 use Rattle.machine_rows.proofs.RowLaws.{columns-written}
 use Rattle.machine_rows.proofs.processor_row.write_columns.Goals as goal
 
--- `machine_rows::processor_row::write_columns` meets its contract: where it stores, the list is as long as ever, whatever was stored before. Assumes
--- nothing.
 pub bounds-row-0 : goal.bounds-row-0
 bounds-row-0 c = lt-length-sets c.args.row.now 0 ([]) (omega arith)
 

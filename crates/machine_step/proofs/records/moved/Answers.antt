@@ -1,7 +1,6 @@
 use Rattle.machine_step.proofs.RecordsLaws.{moved_some, moved_none}
 use Rattle.machine_step.proofs.records.moved.Goals as goal
 
--- `machine_step::records::moved` meets its contract. Assumes nothing.
 pub log_depth-requires : goal.log_depth-requires
 log_depth-requires c = (c.requires.room c.if-recording.true, c.requires.deep c.if-recording.true)
 

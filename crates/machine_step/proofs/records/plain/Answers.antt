@@ -2,7 +2,6 @@ use mathlib.Core.Path.{refl}
 use Rattle.machine_step.proofs.RecordsLaws.{recorded_some, recorded-none}
 use Rattle.machine_step.proofs.records.plain.Goals as goal
 
--- `machine_step::records::plain` meets its contract. Assumes nothing.
 pub write_plain-requires : goal.write_plain-requires
 write_plain-requires c = c.requires.room c.if-asked.true
 

@@ -7,7 +7,6 @@ use native.Mathlib.Omega.{arith}
 use mathlib.Core.Path.{◌≡◌}
 use Rattle.machine_steps.proofs.steps.log_lacks.Goals as goal
 
--- `machine_steps::steps::log_lacks` meets its contract. Assumes nothing.
 pub returns-then-left-ge1028 : goal.returns-then-left-ge1028
 returns-then-left-ge1028 c =
     let e : ltb c.args.left (most_bytes c.args.revision) ≡ false = le-ltb c.args.left (most_bytes c.args.revision) (omega (arith, most_few c.args.revision, c.if-left-ge1028.true)) in

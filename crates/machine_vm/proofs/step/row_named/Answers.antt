@@ -1,6 +1,5 @@
 use Rattle.machine_vm.proofs.step.row_named.Goals as goal
 
--- `machine_vm::step::row_named` meets its contract. Assumes nothing.
 pub find_row-found-requires : goal.find_row-found-requires
 find_row-found-requires c =
     c.requires c.if-taken.true

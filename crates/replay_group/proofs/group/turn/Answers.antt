@@ -3,7 +3,6 @@ use mathlib.Core.Path.{sym, ◌∙◌}
 use Rattle.replay_group.proofs.TurnLaws.{ram_long, not-ram, ram_outside, ram-write, ram_unchecked, ram-right, ram-wrong}
 use Rattle.replay_group.proofs.group.turn.Goals as goal
 
--- `replay_group::group::turn` meets its contract. Assumes nothing.
 pub returns-then-kind-ne5 : goal.returns-then-kind-ne5
 returns-then-kind-ne5 c = not-ram _ _ _ _ _ _ _ _ c.if-kind-ne5.true
 

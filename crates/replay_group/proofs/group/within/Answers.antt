@@ -2,7 +2,6 @@ use borrow.Author.Tests.{lt-ltb, le-ltb}
 use Rattle.replay_table.specs.Group.{inside}
 use Rattle.replay_group.proofs.group.within.Goals as goal
 
--- `replay_group::group::within` meets its contract. Assumes nothing.
 pub returns-then-a-lo : goal.returns-then-a-lo
 unfolding inside
 returns-then-a-lo c = rw (lt-ltb _ _ c.if-a-lo.true)

@@ -2,7 +2,6 @@ use Prim.Native.Nat.{◌-◌}
 use Rattle.replay_group.proofs.WriteLaws.{brought-whole, written-whole}
 use Rattle.replay_group.proofs.write.write_back.Goals as goal
 
--- `replay_group::write::write_back` meets its contract. Assumes nothing.
 pub bring-requires : goal.bring-requires
 bring-requires c =
     let r = c.requires in

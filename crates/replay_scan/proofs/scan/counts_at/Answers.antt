@@ -1,7 +1,6 @@
 use Rattle.replay_scan.proofs.ScanLaws.{counts_same, counts_anew}
 use Rattle.replay_scan.proofs.scan.counts_at.Goals as goal
 
--- `replay_scan::scan::counts_at` meets its contract. Assumes nothing.
 pub returns-then-n-clock : goal.returns-then-n-clock
 returns-then-n-clock c =
     counts_same _ _ c.requires c.if-n-clock.true

@@ -2,7 +2,6 @@ use Rattle.replay_scan.proofs.ScanLaws.{wrong-way, wrong-place, right-place}
 use native.Mathlib.Omega.{arith}
 use Rattle.replay_scan.proofs.scan.fields_fit.Goals as goal
 
--- `replay_scan::scan::fields_fit` meets its contract. Assumes nothing.
 pub returns-then-f-gt1 : goal.returns-then-f-gt1
 returns-then-f-gt1 c =
     wrong-way _ _ _ c.if-f-gt1.true

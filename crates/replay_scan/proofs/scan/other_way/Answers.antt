@@ -2,7 +2,6 @@ use borrow.Author.Tests.{eq-eqb, ne_eqb}
 use mathlib.Core.Path.{◌∙◌}
 use Rattle.replay_scan.proofs.scan.other_way.Goals as goal
 
--- `replay_scan::scan::other_way` meets its contract. Assumes nothing.
 pub returns-then-n-eq0 : goal.returns-then-n-eq0
 returns-then-n-eq0 c =
     rw (eq-eqb _ 0 c.if-n-eq0.true)

@@ -4,7 +4,6 @@ use Rattle.replay_scan.proofs.ScanLaws.{stack_size, ram_size, turn_stack, turn_r
 use native.Mathlib.Omega.{arith}
 use Rattle.replay_scan.proofs.scan.record_turn.Goals as goal
 
--- `replay_scan::scan::record_turn` meets its contract. Assumes nothing.
 pub stack_fields-f-requires : goal.stack_fields-f-requires
 stack_fields-f-requires c =
     omega (arith, stack_size c.args.revision _ c.if-kind-eq4.true)

@@ -1,7 +1,6 @@
 use Rattle.replay_scan.proofs.ScanLaws.{write-elsewhere, write_over, write-room, shallow_fault, read-elsewhere, read_here}
 use Rattle.replay_scan.proofs.scan.stack_fault.Goals as goal
 
--- `replay_scan::scan::stack_fault` meets its contract. Assumes nothing.
 pub returns-then-place-depth : goal.returns-then-place-depth
 returns-then-place-depth c =
     write-elsewhere _ _ _ _ c.if-f-ne0.true c.if-place-depth.true

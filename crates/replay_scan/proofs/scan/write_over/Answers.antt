@@ -1,7 +1,6 @@
 use borrow.Author.Tests.{eq-eqb, ne_eqb}
 use Rattle.replay_scan.proofs.scan.write_over.Goals as goal
 
--- `replay_scan::scan::write_over` meets its contract. Assumes nothing.
 pub returns-then-dir-eq0 : goal.returns-then-dir-eq0
 returns-then-dir-eq0 c =
     rw (eq-eqb _ 0 c.if-dir-eq0.true)

@@ -5,7 +5,6 @@ use Rattle.replay_table.proofs.GroupLaws.{apart}
 use Rattle.replay_table.proofs.TableLaws.{waits_by}
 use Rattle.replay_table.proofs.table.waits.Goals as goal
 
--- `replay_table::table::waits` meets its contract. Assumes nothing.
 pub returns-then-lmost-m : goal.returns-then-lmost-m
 returns-then-lmost-m c =
     record { late_room = λ e. absurd (apart (sym e)); room = λ e. absurd (apart (sym e)); many = λ _ i j. absurd (omega arith) }

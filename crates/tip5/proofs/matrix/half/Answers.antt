@@ -1,7 +1,6 @@
 use native.Mathlib.Omega.{arith}
 use Rattle.tip5.proofs.matrix.half.Goals as goal
 
--- `tip5::matrix::half` meets its contract. Assumes nothing.
 pub returns-then-upper : goal.returns-then-upper
 returns-then-upper c = (rw c.if-upper.true, omega arith)
 

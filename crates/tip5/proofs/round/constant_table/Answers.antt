@@ -2,7 +2,6 @@ use mathlib.Core.Path.{refl}
 use Rattle.tip5.specs.Round.{constants}
 use Rattle.tip5.proofs.round.constant_table.Goals as goal
 
--- `tip5::round::constant_table` meets its contract. Assumes nothing.
 pub returns : goal.returns
 unfolding constants
 returns c = refl

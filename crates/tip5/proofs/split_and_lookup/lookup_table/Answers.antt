@@ -3,7 +3,6 @@ use Rattle.tip5.specs.SplitAndLookup.{lookup_of, lookups}
 use Rattle.tip5.specs.Tab.{tab}
 use Rattle.tip5.proofs.split_and_lookup.lookup_table.Goals as goal
 
--- `tip5::split_and_lookup::lookup_table` meets its contract. Assumes nothing.
 pub returns : goal.returns
 unfolding lookups lookup_of tab
 returns c = refl

@@ -6,7 +6,6 @@ use Rattle.field.specs.Base.{add_p}
 use Rattle.tip5.specs.Tab.{tab}
 use Rattle.tip5_vectors.proofs.vectors.add_digests.Given as goal
 
--- `tip5_vectors::vectors::add_digests` meets its contract. Assumes nothing.
 abbrev pub sums : List ℕ → List ℕ → ℕ → ℕ
 sums a b i = add_p (get_or a i 0) (get_or b i 0)
 

@@ -6,7 +6,6 @@ use native.Mathlib.Omega.{arith}
 use mathlib.Core.Path.{sym, ◌∙◌}
 use Rattle.runjob.proofs.pending.piece.put_lines.Goals as goal
 
--- `runjob::pending::piece::put_lines` meets its contract. Assumes nothing.
 pub slice_bounds-stack_lines-end : goal.slice_bounds-stack_lines-end
 slice_bounds-stack_lines-end c = sym (length-take-le _ _ c.requires.bytes)
 

@@ -6,7 +6,6 @@ use mathlib.Core.Path.{refl, sym}
 use borrow.Author.Rules.{rules}
 use Rattle.runjob.proofs.pending.start.start.Goals as goal
 
--- `runjob::pending::start::start` meets its contract. Assumes nothing.
 pub slice_bounds-read_job-end : goal.slice_bounds-read_job-end
 slice_bounds-read_job-end c = sym (length-take-le _ _ (search rules))
 
