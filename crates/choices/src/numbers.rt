@@ -27,5 +27,5 @@ pub fn differ(a: usize, b: usize, n: u64) -> u64
 pub fn least(a: usize, b: usize) -> usize
     ensures { result ≡ min a b }
 {
-    if a < b { a } else { b }
+    a.min(b)
 }

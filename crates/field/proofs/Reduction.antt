@@ -1,60 +1,10 @@
 -- Laws on plain numbers that the proofs cite. Assumes nothing.
-use mathlib.Core.Path.{◌≡◌, refl, sym, ◌∙◌}
+use mathlib.Core.Path.{◌≡◌, sym, ◌∙◌}
 use Prim.Native.Nat.{ℕ, ◌+◌, ◌*◌, ◌-◌, ◌/◌, ◌%◌, ◌^◌, ◌<◌, ◌≤◌}
-use native.Mathlib.Nat.{mul-le-mul, div-add-mod', add-mul-mod_self_right}
+use native.Mathlib.Nat.{add-mul-mod_self_right}
 use native.Mathlib.Omega.{arith}
 use Rattle.field.specs.Base.{p}
-use lib.Arith.{digits_div, digits_mod}
-
--- the product of two half words
-half_mul : (a b : ℕ) → a < 2 ^ 32 → b < 2 ^ 32 → a * b ≤ 0xffff_fffe_0000_0001
-half_mul a b ha hb = mul-le-mul {n₁ = a} {m₁ = b} {n₂ = 0xffff_ffff} {m₂ = 0xffff_ffff} (omega arith) (omega arith)
-
--- the four products of the halves of two words
-pub record Halves (a b : ℕ) : Type 0 where
-  pub ll : a % 2 ^ 32 * (b % 2 ^ 32) ≤ 0xffff_fffe_0000_0001
-  pub hl : a / 2 ^ 32 * (b % 2 ^ 32) ≤ 0xffff_fffe_0000_0001
-  pub lh : a % 2 ^ 32 * (b / 2 ^ 32) ≤ 0xffff_fffe_0000_0001
-  pub hh : a / 2 ^ 32 * (b / 2 ^ 32) ≤ 0xffff_fffe_0000_0001
-
-pub halves : (a b : ℕ) → a < 2 ^ 64 → b < 2 ^ 64 → Halves a b
-halves a b ha hb =
-    record {
-      ll = half_mul _ _ (omega arith) (omega arith);
-      hl = half_mul _ _ (omega arith) (omega arith);
-      lh = half_mul _ _ (omega arith) (omega arith);
-      hh = half_mul _ _ (omega arith) (omega arith);
-    }
-
--- the product of two words by its columns
-columns : (a₁ a₀ b₁ b₀ w t s : ℕ) → w ≡ a₀ * b₀ → t ≡ a₁ * b₀ + w / 2 ^ 32 → s ≡ t % 2 ^ 32 + a₀ * b₁
-    → (a₁ * 2 ^ 32 + a₀) * (b₁ * 2 ^ 32 + b₀) ≡ (a₁ * b₁ + t / 2 ^ 32 + s / 2 ^ 32) * 2 ^ 64 + (s % 2 ^ 32 * 2 ^ 32 + w % 2 ^ 32)
-columns a₁ a₀ b₁ b₀ w t s e₀ e₁ e₂ = omega arith
-
--- what the code computes
-abbrev pub mid : ℕ → ℕ → ℕ
-mid a b = a / 2 ^ 32 * (b % 2 ^ 32) + a % 2 ^ 32 * (b % 2 ^ 32) / 2 ^ 32
-
-abbrev pub next : ℕ → ℕ → ℕ
-next a b = mid a b % 2 ^ 32 + a % 2 ^ 32 * (b / 2 ^ 32)
-
-abbrev pub upper : ℕ → ℕ → ℕ
-upper a b = a / 2 ^ 32 * (b / 2 ^ 32) + mid a b / 2 ^ 32 + next a b / 2 ^ 32
-
-abbrev pub lower : ℕ → ℕ → ℕ
-lower a b = next a b % 2 ^ 32 * 2 ^ 32 + a % 2 ^ 32 * (b % 2 ^ 32) % 2 ^ 32
-
-pub whole : (a b : ℕ) → a * b ≡ upper a b * 2 ^ 64 + lower a b
-whole a b = sym (λ i. div-add-mod' a (2 ^ 32) i * div-add-mod' b (2 ^ 32) i) ∙ columns _ _ _ _ _ _ _ refl refl refl
-
-lower-lt : (x y : ℕ) → x % 2 ^ 32 * 2 ^ 32 + y % 2 ^ 32 < 2 ^ 64
-lower-lt x y = omega arith
-
-pub upper_is : (a b : ℕ) → upper a b ≡ a * b / 2 ^ 64
-upper_is a b = sym ((λ i. whole a b i / 2 ^ 64) ∙ digits_div (upper a b) (lower-lt (next a b) _))
-
-pub lower-is : (a b : ℕ) → lower a b ≡ a * b % 2 ^ 64
-lower-is a b = sym ((λ i. whole a b i % 2 ^ 64) ∙ digits_mod (upper a b) (lower-lt (next a b) _))
+use lib.Arith.{digits_mod}
 
 -- r is x's remainder where the two differ by multiples of p
 pub cong_mod : (x i j : ℕ) {r : ℕ} → x + j * p ≡ i * p + r → r < p → r ≡ x % p

@@ -1,5 +1,6 @@
 -- Extension words: polynomials c0 + c1 X + c2 X^2 over the words, modulo X^3 - X + 1.
-use Rattle.std.specs.Prelude.{ℕ, ◌+◌, ◌*◌, ◌<◌}
+use Rattle.std.specs.Prelude.{ℕ, ◌+◌, ◌*◌, ◌<◌, List, [], ◌∷◌, ◌++◌}
+use Rattle.std.specs.Fmt.{decimal}
 use Rattle.field.specs.declared.extension.XFieldElement.{XFieldElement}
 use Rattle.field.specs.Base.{p, add_p, neg_p, sub_p, mul_p, inverse_p}
 
@@ -24,6 +25,10 @@ neg_x x = xfe (neg_p x.c0) (neg_p x.c1) (neg_p x.c2)
 
 unfoldable pub sub_x : XFieldElement → XFieldElement → XFieldElement
 sub_x x y = xfe (sub_p x.c0 y.c0) (sub_p x.c1 y.c1) (sub_p x.c2 y.c2)
+
+-- the text of an extension word: [c0 c1 c2]
+abbrev pub text_x : XFieldElement → List ℕ
+text_x x = 91 ∷ (decimal x.c0 ++ (32 ∷ (decimal x.c1 ++ (32 ∷ (decimal x.c2 ++ (93 ∷ []))))))
 
 -- d0 + d1 X + d2 X^2 + d3 X^3 + d4 X^4 modulo X^3 - X + 1: X^3 is X - 1, and so X^4 is X^2 - X
 abbrev pub mod_cubic : ℕ → ℕ → ℕ → ℕ → ℕ → XFieldElement

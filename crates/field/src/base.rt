@@ -26,40 +26,26 @@ pub fn neg(a: u64) -> u64
     if a == 0 { 0 } else { P - a }
 }
 
-// The upper 64 bits of a * b. Written apart from mul_lo, each by halves of 32 bits, the two become one multiplication.
+// The upper 64 bits of a * b.
 pub fn mul_hi(a: u64, b: u64) -> u64
     ensures { result ≡ a * b / 2 ^ 64 }
 {
-    let a0 = a % 0x1_0000_0000;
-    let a1 = a / 0x1_0000_0000;
-    let b0 = b % 0x1_0000_0000;
-    let b1 = b / 0x1_0000_0000;
-    let w = a0 * b0;
-    let t = a1 * b0 + w / 0x1_0000_0000;
-    let s = t % 0x1_0000_0000 + a0 * b1;
-    a1 * b1 + t / 0x1_0000_0000 + s / 0x1_0000_0000
+    (u128::from(a) * u128::from(b) / 0x1_0000_0000_0000_0000) as u64
 }
 
 // The lower 64 bits of a * b.
 pub fn mul_lo(a: u64, b: u64) -> u64
     ensures { result ≡ a * b % 2 ^ 64 }
 {
-    let a0 = a % 0x1_0000_0000;
-    let a1 = a / 0x1_0000_0000;
-    let b0 = b % 0x1_0000_0000;
-    let b1 = b / 0x1_0000_0000;
-    let w = a0 * b0;
-    let t = a1 * b0 + w / 0x1_0000_0000;
-    let s = t % 0x1_0000_0000 + a0 * b1;
-    s % 0x1_0000_0000 * 0x1_0000_0000 + w % 0x1_0000_0000
+    a.wrapping_mul(b)
 }
 
 // hi * 2^64 + lo, for any two numbers of 64 bits: modulo P, 2^64 is 2^32 - 1 and 2^96 is -1.
 pub fn reduce(hi: u64, lo: u64) -> u64
     ensures { result ≡ (hi * 2 ^ 64 + lo) % p }
 {
-    let h = hi / 0x1_0000_0000;
-    let m = hi % 0x1_0000_0000 * 0xffff_ffff;
+    let h = high(hi);
+    let m = low(hi) * 0xffff_ffff;
     let t = if h <= lo { lo - h } else { lo + (P - h) };
     let c = P - m;
     if t < c { t + m } else { t - c }
@@ -94,10 +80,8 @@ fn squared(x: u64, n: u64) -> u64
     ensures { result ≡ pow_p x (2 ^ n) }
 {
     let mut r = x;
-    let mut i: u64 = 0;
-    while i < n {
+    for _ in 0..n {
         r = mul(r, r);
-        i += 1;
     }
     r
 }

@@ -6,9 +6,9 @@ ghost use Rattle.std.specs.Prelude.{◌<◌};
 ghost use Rattle.field.specs.Base.{p};
 ghost use Rattle.field.specs.Extension.{WordsX};
 
+use field::base;
 use field::extension::XFieldElement;
-use field::{base, extension};
-use std::io;
+use std::{fmt, io};
 
 // ---- words
 
@@ -40,35 +40,33 @@ fn number(i: u64) -> u64 {
     }
 }
 
-fn line1(rt: &impl Print, name: &[u8], a: u64, r: u64) -> io::Result<()> {
-    rt.write_all(name)?;
-    println!(rt; "{a} = {r}")
+fn line1<T: Copy + fmt::Display>(rt: &impl Print, name: &str, x: T, r: T) -> io::Result<()> {
+    println!(rt; "{name} {x} = {r}")
 }
 
-fn line2(rt: &impl Print, name: &[u8], a: u64, b: u64, r: u64) -> io::Result<()> {
-    rt.write_all(name)?;
-    println!(rt; "{a} {b} = {r}")
+fn line2<T: Copy + fmt::Display>(rt: &impl Print, name: &str, x: T, y: T, r: T) -> io::Result<()> {
+    println!(rt; "{name} {x} {y} = {r}")
 }
 
 fn of_word(rt: &impl Print, a: u64) -> io::Result<()>
     requires { a < p }
 {
-    line1(rt, b"neg ", a, base::neg(a))?;
-    line1(rt, b"inverse ", a, base::inverse_or_zero(a))
+    line1(rt, "neg", a, base::neg(a))?;
+    line1(rt, "inverse", a, base::inverse_or_zero(a))
 }
 
 fn of_words(rt: &impl Print, a: u64, b: u64) -> io::Result<()>
     requires { (a < p) × (b < p) }
 {
-    line2(rt, b"add ", a, b, base::add(a, b))?;
-    line2(rt, b"sub ", a, b, base::sub(a, b))?;
-    line2(rt, b"mul ", a, b, base::mul(a, b))?;
-    line2(rt, b"pow ", a, b, base::mod_pow(a, b))
+    line2(rt, "add", a, b, base::add(a, b))?;
+    line2(rt, "sub", a, b, base::sub(a, b))?;
+    line2(rt, "mul", a, b, base::mul(a, b))?;
+    line2(rt, "pow", a, b, base::mod_pow(a, b))
 }
 
 fn of_numbers(rt: &impl Print, a: u64, b: u64) -> io::Result<()> {
-    line2(rt, b"mul ", a, b, base::mul(a, b))?;
-    line2(rt, b"reduce ", a, b, base::reduce(a, b))
+    line2(rt, "mul", a, b, base::mul(a, b))?;
+    line2(rt, "reduce", a, b, base::reduce(a, b))
 }
 
 // One loop for the pairs, whose first turns take each word alone too.
@@ -96,16 +94,7 @@ fn element(i: u64) -> XFieldElement
     ensures { WordsX result }
 {
     match i {
-        0 => XFieldElement {
-            c0: 0,
-            c1: 0,
-            c2: 0,
-        },
-        1 => XFieldElement {
-            c0: 1,
-            c1: 0,
-            c2: 0,
-        },
+        0 | 1 => XFieldElement::from(i),
         2 => XFieldElement {
             c0: 0,
             c1: 1,
@@ -134,54 +123,25 @@ fn element(i: u64) -> XFieldElement
     }
 }
 
-fn print(rt: &impl Print, x: XFieldElement) -> io::Result<()> {
-    let XFieldElement { c0, c1, c2 } = x;
-    print!(rt; "[{c0} {c1} {c2}]")
-}
-
-fn xline1(rt: &impl Print, name: &[u8], x: XFieldElement, r: XFieldElement) -> io::Result<()> {
-    rt.write_all(name)?;
-    print(rt, x)?;
-    print!(rt; " = ")?;
-    print(rt, r)?;
-    println!(rt)
-}
-
-fn xline2(
-    rt: &impl Print,
-    name: &[u8],
-    x: XFieldElement,
-    y: XFieldElement,
-    r: XFieldElement,
-) -> io::Result<()> {
-    rt.write_all(name)?;
-    print(rt, x)?;
-    print!(rt; " ")?;
-    print(rt, y)?;
-    print!(rt; " = ")?;
-    print(rt, r)?;
-    println!(rt)
-}
-
 fn of_element(rt: &impl Print, x: XFieldElement) -> io::Result<()>
     requires { WordsX x }
 {
-    xline1(rt, b"neg ", x, extension::neg(x))?;
-    xline1(rt, b"inverse ", x, extension::inverse_or_zero(x))?;
-    xline1(
+    line1(rt, "neg", x, -x)?;
+    line1(rt, "inverse", x, x.inverse_or_zero())?;
+    line1(
         rt,
-        b"scale 18446744069414584319 ",
+        "scale 18446744069414584319",
         x,
-        extension::scale(18446744069414584319, x),
+        x.scale(18446744069414584319),
     )
 }
 
 fn of_elements(rt: &impl Print, x: XFieldElement, y: XFieldElement) -> io::Result<()>
     requires { (WordsX x) × (WordsX y) }
 {
-    xline2(rt, b"add ", x, y, extension::add(x, y))?;
-    xline2(rt, b"sub ", x, y, extension::sub(x, y))?;
-    xline2(rt, b"mul ", x, y, extension::mul(x, y))
+    line2(rt, "add", x, y, x + y)?;
+    line2(rt, "sub", x, y, x - y)?;
+    line2(rt, "mul", x, y, x * y)
 }
 
 fn elements(rt: &impl Print) -> io::Result<()> {

@@ -6,8 +6,8 @@ ghost use Rattle.machine.specs.Words.{Words};
 ghost use Rattle.machine_effects.specs.EffectView.{decision_of};
 ghost use Rattle.machine.specs.Arithmetic.{add_of, addi_of, mul_of, invert_of, eq_of, xst, zero_x, xx_add_of, xx_mul_of, x_invert_of, xb_mul_of};
 
+use field::base;
 use field::extension::XFieldElement;
-use field::{base, extension};
 use machine::refusal::InstructionError;
 use machine_effects::effect;
 use machine_effects::effect::Decided;
@@ -70,7 +70,7 @@ pub fn xx_add(w: [u64; 16]) -> Decided
     requires { Words w }
     ensures { decision_of result ≡ xx_add_of w }
 {
-    let x = extension::add(element(w, 0), element(w, 3));
+    let x = element(w, 0) + element(w, 3);
     effect::put3(6, x.c2, x.c1, x.c0)
 }
 
@@ -78,18 +78,8 @@ pub fn xx_mul(w: [u64; 16]) -> Decided
     requires { Words w }
     ensures { decision_of result ≡ xx_mul_of w }
 {
-    let x = extension::mul(element(w, 0), element(w, 3));
+    let x = element(w, 0) * element(w, 3);
     effect::put3(6, x.c2, x.c1, x.c0)
-}
-
-fn is_zero(x: XFieldElement) -> bool
-    ensures { result ≡ zero_x x }
-{
-    if x.c0 == 0 {
-        if x.c1 == 0 { x.c2 == 0 } else { false }
-    } else {
-        false
-    }
 }
 
 pub fn x_invert(w: [u64; 16]) -> Decided
@@ -97,10 +87,10 @@ pub fn x_invert(w: [u64; 16]) -> Decided
     ensures { decision_of result ≡ x_invert_of w }
 {
     let x = element(w, 0);
-    if is_zero(x) {
+    if x == XFieldElement::from(0) {
         effect::refuse(InstructionError::InverseOfZero)
     } else {
-        let y = extension::inverse_or_zero(x);
+        let y = x.inverse_or_zero();
         effect::put3(3, y.c2, y.c1, y.c0)
     }
 }
@@ -109,6 +99,6 @@ pub fn xb_mul(w: [u64; 16]) -> Decided
     requires { Words w }
     ensures { decision_of result ≡ xb_mul_of w }
 {
-    let x = extension::scale(w[15], element(w, 1));
+    let x = element(w, 1).scale(w[15]);
     effect::put3(4, x.c2, x.c1, x.c0)
 }

@@ -16,8 +16,8 @@ ghost use Rattle.machine.specs.ManyInOne.{siblings, merkle_trace, parent, merkle
 
 use crate::hashing;
 use crate::hashing::Hashed;
+use field::base;
 use field::extension::XFieldElement;
-use field::{base, extension};
 use machine::refusal::InstructionError;
 use machine_effects::effect::{Decided, U32Call};
 use machine_effects::memory::Accesses;
@@ -225,13 +225,7 @@ pub fn xx_dot_step(addresses: &[u64], values: &[u64], count: usize, w: [u64; 16]
     let r = w[14];
     let x = element_at(addresses, values, count, l);
     let y = element_at(addresses, values, count, r);
-    put_xx(
-        l,
-        r,
-        x,
-        y,
-        extension::add(accumulator(w), extension::mul(x, y)),
-    )
+    put_xx(l, r, x, y, accumulator(w) + x * y)
 }
 
 // The reads of a word and of an extension word, and what is put on: z, and the addresses up by three and by one.
@@ -252,11 +246,5 @@ pub fn xb_dot_step(addresses: &[u64], values: &[u64], count: usize, w: [u64; 16]
     let r = w[14];
     let b = ram::read(addresses, values, count, l);
     let x = element_at(addresses, values, count, r);
-    put_xb(
-        l,
-        r,
-        b,
-        x,
-        extension::add(accumulator(w), extension::scale(b, x)),
-    )
+    put_xb(l, r, b, x, accumulator(w) + x.scale(b))
 }

@@ -8,18 +8,27 @@ use native.Mathlib.Numerals.{add-one}
 use native.Mathlib.Omega.{arith}
 use borrow.Author.Tests.{ltb-true, ltb-false}
 use lib.Dec.{ltb, T, ltb→lt}
-use lib.ListN.{replicate, length, take, drop, get_or, set, length-append, length-take, length-drop, get_or-append}
+use lib.ListN.{replicate, length, take, drop, get_or, set, length-replicate, length-set, length-append, length-take, length-drop, get_or-append}
 use lib.Seq.{take-suc-set, take_all, get_or_at, get_or-take, get_or-drop, ext_get_or}
 use Rattle.tip5.specs.Tab.{tab, tab_zero, tab_suc}
 
--- one store more of a loop that fills a list from the front
-pub tab-more : (f : ℕ → ℕ) (l : List ℕ) (i a : ℕ) → i < length l → take i l ≡ tab f i → a ≡ f i → take (i + 1) (set l i a) ≡ tab f (i + 1)
-tab-more f l i a h e g =
-    ap (λ (n : ℕ). take n (set l i a)) (add-one i) ∙ take-suc-set l i a h ∙ (λ k. e k ++ (g k ∷ [])) ∙ sym (ap (tab f) (add-one i) ∙ tab_suc f i)
+-- the first i of the n elements of l are those that f makes: what a loop that fills a list from the front keeps
+pub record Filled (f : ℕ → ℕ) (l : List ℕ) (n i : ℕ) : Type 0 where
+  pub long : length l ≡ n
+  pub made : take i l ≡ tab f i
 
--- the loop's end
-pub tab-all : (f : ℕ → ℕ) (l : List ℕ) (i n : ℕ) → length l ≡ n → i ≡ n → take i l ≡ tab f i → l ≡ tab f n
-tab-all f l i n h g e = sym (ap (λ (k : ℕ). take k l) g ∙ take_all n l (le_of_eq h)) ∙ e ∙ ap (tab f) g
+pub filled_none : (f : ℕ → ℕ) (n : ℕ) → Filled f (replicate n 0) n 0
+filled_none f n = record { long = length-replicate n 0; made = sym (tab_zero f) }
+
+pub filled_more : (f : ℕ → ℕ) (l : List ℕ) (n i a : ℕ) → Filled f l n i → i < n → a ≡ f i → Filled f (set l i a) n (i + 1)
+filled_more f l n i a h g e =
+    record {
+      long = length-set l i a ∙ h.long;
+      made = ap (λ (k : ℕ). take k (set l i a)) (add-one i) ∙ take-suc-set l i a (rw h.long g) ∙ (λ k. h.made k ++ (e k ∷ [])) ∙ sym (ap (tab f) (add-one i) ∙ tab_suc f i);
+    }
+
+pub filled_all : (f : ℕ → ℕ) (l : List ℕ) (n i : ℕ) → Filled f l n i → i ≡ n → l ≡ tab f n
+filled_all f l n i h g = sym (ap (λ (k : ℕ). take k l) g ∙ take_all n l (le_of_eq h.long)) ∙ h.made ∙ ap (tab f) g
 
 pub tab-length : (f : ℕ → ℕ) (n : ℕ) → length (tab f n) ≡ n
 tab-length f zero = ap length (tab_zero f)
@@ -38,13 +47,9 @@ pub tab-at : (f : ℕ → ℕ) (n k : ℕ) → k < n → get_or (tab f n) k 0 �
 tab-at f zero k h = absurd (omega arith)
 tab-at f (suc n) k h = ap (λ (l : List ℕ). get_or l k 0) (tab_suc f n) ∙ last_or_before f n k (ltb k n) refl (tab-at f n k) h
 
--- the end of a loop that fills the first n
-pub tab-first : (f : ℕ → ℕ) (l : List ℕ) (i n : ℕ) → i ≡ n → take i l ≡ tab f i → take n l ≡ tab f n
-tab-first f l i n g e = sym (ap (λ (k : ℕ). take k l) g) ∙ e ∙ ap (tab f) g
-
--- what the loop has stored
-pub tab-stored : (f : ℕ → ℕ) (l : List ℕ) (i k : ℕ) → take i l ≡ tab f i → k < i → get_or l k 0 ≡ f k
-tab-stored f l i k e h = sym (get_or-take i l k 0 h) ∙ ap (λ (m : List ℕ). get_or m k 0) e ∙ tab-at f i k h
+-- an element of a list that is made so
+pub tab-element : (f : ℕ → ℕ) (l : List ℕ) (n k : ℕ) → l ≡ tab f n → k < n → get_or l k 0 ≡ f k
+tab-element f l n k e h = ap (λ (m : List ℕ). get_or m k 0) e ∙ tab-at f n k h
 
 -- one computed equation, carried to each element
 pub tab-same : (f g : ℕ → ℕ) (n k : ℕ) → tab f n ≡ tab g n → k < n → f k ≡ g k

@@ -1,24 +1,15 @@
 // Hashing: ten words, or words of any number, to a digest of five.
-ghost use Rattle.std.specs.Prelude.{◌≡◌, ◌*◌, ◌≤◌, length, take, drop, get_or};
+ghost use Rattle.std.specs.Prelude.{◌≡◌, ◌*◌, ◌≤◌, length, get_or};
 ghost use Rattle.tip5.specs.Hash.{hash10_of, padded_of, block_of, hash_varlen_of};
 
-use crate::sponge::{Domain, absorb, init, new};
-use crate::words::copy;
-
-fn digest(words: [u64; 16]) -> [u64; 5]
-    ensures { result ≡ take 5 words }
-{
-    let mut out = [0u64; 5];
-    copy(&mut out, 0, &words, 5);
-    out
-}
+use crate::sponge::{Domain, Sponge};
+use crate::words::first;
 
 pub fn hash_10(input: [u64; 10]) -> [u64; 5]
     ensures { result ≡ hash10_of input }
 {
-    let s = absorb(new(Domain::FixedLength), input);
-    let words = s.words;
-    digest(words)
+    let words = Sponge::new(Domain::FixedLength).absorb(input).words;
+    first(&words)
 }
 
 // Word k of the padded input.
@@ -39,25 +30,16 @@ fn block(input: &[u64], n: usize) -> [u64; 10]
     requires { 10 * n ≤ length input.now }
     ensures { result ≡ block_of n (padded_of input.now) }
 {
-    let mut out = [0u64; 10];
-    let mut j: usize = 0;
-    while j < 10 {
-        out[j] = padded_word(input, 10 * n + j);
-        j += 1;
-    }
-    out
+    std::array::from_fn(|j| padded_word(input, 10 * n + j))
 }
 
 pub fn hash_varlen(input: &[u64]) -> [u64; 5]
     ensures { result ≡ hash_varlen_of input.now }
 {
-    let n = input.len() / 10 + 1;
-    let mut s = init();
-    let mut i: usize = 0;
-    while i < n {
-        s = absorb(s, block(input, i));
-        i += 1;
+    let mut sponge = Sponge::init();
+    for n in 0..input.len() / 10 + 1 {
+        sponge = sponge.absorb(block(input, n));
     }
-    let words = s.words;
-    digest(words)
+    let words = sponge.words;
+    first(&words)
 }

@@ -1,16 +1,16 @@
 // A round: the S-box layer, then the matrix, then the round constants.
-ghost use Rattle.std.specs.Prelude.{◌≡◌, ◌+◌, ◌*◌, ◌%◌, ◌<◌, ◌^◌};
+ghost use Rattle.std.specs.Prelude.{◌≡◌, ◌+◌, ◌*◌, ◌%◌, ◌<◌, ◌^◌, get_or};
 ghost use Rattle.field.specs.Base.{p};
-ghost use Rattle.tip5.specs.SplitAndLookup.{lookups};
 ghost use Rattle.tip5.specs.Matrix.{mds_of};
-ghost use Rattle.tip5.specs.Split.{coefficients};
+ghost use Rattle.tip5.specs.Split.{Below};
 ghost use Rattle.tip5.specs.Round.{constants, constant_of, with_constants, round_of};
 
-use crate::matrix::{halves, mds};
+use crate::matrix::{lower_halves, mds, upper_halves};
 use crate::sbox::sbox_layer;
+use field::base;
 
 // At 16 * r + i stands the constant of round r and word i.
-const ROUND_CONSTANTS: [u64; 80] = [
+static ROUND_CONSTANTS: [u64; 80] = [
     13630775303355457758,
     16896927574093233874,
     10379449653650130495,
@@ -93,54 +93,43 @@ const ROUND_CONSTANTS: [u64; 80] = [
     6024642864597845108,
 ];
 
-pub fn constant_table() -> [u64; 80]
-    ensures { result ≡ constants }
+pub fn constant_table() -> &'static [u64; 80]
+    ensures { result.now ≡ constants }
 {
-    ROUND_CONSTANTS
+    &ROUND_CONSTANTS
 }
 
-fn constant_at(k: &[u64; 80], r: usize, i: usize) -> u64
-    requires { (r < 5) × (i < 16) × (k.now ≡ constants) }
+fn constant_at(r: usize, i: usize) -> u64
+    requires { (r < 5) × (i < 16) }
     ensures { result ≡ constant_of r i }
 {
-    k[16 * r + i]
+    constant_table()[16 * r + i]
 }
 
-// hi * 2^32 + lo + k modulo p.
-fn finish(lo: u64, hi: u64, k: u64) -> u64
-    requires { (lo < 2 ^ 53) × (hi < 2 ^ 53) }
-    ensures { result ≡ (hi * 2 ^ 32 + lo + k) % p }
+// Row i, from the rows of the halves: hi * 2^32 + lo + k modulo p, where k is the constant of round r.
+fn row(lo: &[u64; 16], hi: &[u64; 16], r: usize, i: usize) -> u64
+    requires { (r < 5) × (i < 16) × (Below lo.now (2 ^ 53)) × (Below hi.now (2 ^ 53)) }
+    ensures { result ≡ (get_or hi.now i 0 * 2 ^ 32 + get_or lo.now i 0 + constant_of r i) % p }
 {
-    let l = lo + k % 0x1_0000_0000;
-    let z = hi + k / 0x1_0000_0000 + l / 0x1_0000_0000;
-    field::base::reduce(
-        z / 0x1_0000_0000,
-        z % 0x1_0000_0000 * 0x1_0000_0000 + l % 0x1_0000_0000,
-    )
+    let k = constant_at(r, i);
+    let l = lo[i] + base::low(k);
+    let z = hi[i] + base::high(k) + base::high(l);
+    base::reduce(base::high(z), base::low(z) * 0x1_0000_0000 + base::low(l))
 }
 
 // The matrix times s by halves of the words, with the constants of round r.
-fn linear_layer(m: &[u32; 41], k: &[u64; 80], s: &[u64; 16], r: usize) -> [u64; 16]
-    requires { (r < 5) × (m.now ≡ coefficients) × (k.now ≡ constants) }
+fn linear_layer(s: &[u64; 16], r: usize) -> [u64; 16]
+    requires { r < 5 }
     ensures { result ≡ with_constants r (mds_of s.now) }
 {
-    let lower = halves(s, false);
-    let upper = halves(s, true);
-    let lo = mds(m, &lower);
-    let hi = mds(m, &upper);
-    let mut out = [0u64; 16];
-    let mut i: usize = 0;
-    while i < 16 {
-        out[i] = finish(lo[i], hi[i], constant_at(k, r, i));
-        i += 1;
-    }
-    out
+    let lo = mds(&lower_halves(s));
+    let hi = mds(&upper_halves(s));
+    std::array::from_fn(|i| row(&lo, &hi, r, i))
 }
 
-pub fn round(t: &[u8; 256], m: &[u32; 41], k: &[u64; 80], s: &[u64; 16], r: usize) -> [u64; 16]
-    requires { (r < 5) × (t.now ≡ lookups) × (m.now ≡ coefficients) × (k.now ≡ constants) }
+pub fn round(s: &[u64; 16], r: usize) -> [u64; 16]
+    requires { r < 5 }
     ensures { result ≡ round_of r s.now }
 {
-    let b = sbox_layer(t, s);
-    linear_layer(m, k, &b, r)
+    linear_layer(&sbox_layer(s), r)
 }

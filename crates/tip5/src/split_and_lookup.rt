@@ -2,7 +2,9 @@
 ghost use Rattle.std.specs.Prelude.{◌≡◌, ◌+◌, ◌*◌, ◌<◌, ◌^◌};
 ghost use Rattle.tip5.specs.SplitAndLookup.{lookup_of, lookups, looked_up, split_and_lookup};
 
-const LOOKUP: [u8; 256] = [
+use field::base;
+
+static LOOKUP: [u8; 256] = [
     0, 7, 26, 63, 124, 215, 85, 254, 214, 228, 45, 185, 140, 173, 33, 240, 29, 177, 176, 32, 8,
     110, 87, 202, 204, 99, 150, 106, 230, 14, 235, 128, 213, 239, 212, 138, 23, 130, 208, 6, 44,
     71, 93, 116, 146, 189, 251, 81, 199, 97, 38, 28, 73, 179, 95, 84, 152, 48, 35, 119, 49, 88,
@@ -18,52 +20,30 @@ const LOOKUP: [u8; 256] = [
     1, 170, 40, 131, 192, 229, 248, 255,
 ];
 
-// The table, for a caller to lend on: a constant is made anew wherever it is read.
-pub fn lookup_table() -> [u8; 256]
-    ensures { result ≡ lookups }
+pub fn lookup_table() -> &'static [u8; 256]
+    ensures { result.now ≡ lookups }
 {
-    LOOKUP
+    &LOOKUP
 }
 
-fn wide(x: u8) -> u64
-    ensures { (result ≡ x) × (result < 2 ^ 8) }
+fn lookup(b: u8) -> u8
+    ensures { result ≡ lookup_of b }
 {
-    x as u64
-}
-
-fn lookup(t: &[u8; 256], b: u64) -> u64
-    requires { (b < 2 ^ 8) × (t.now ≡ lookups) }
-    ensures { (result ≡ lookup_of b) × (result < 2 ^ 8) }
-{
-    wide(t[b as usize])
+    lookup_table()[usize::from(b)]
 }
 
 // Each of y's eight bytes looked up.
-fn looked_up(t: &[u8; 256], y: u64) -> u64
-    requires { t.now ≡ lookups }
+fn looked_up(y: u64) -> u64
     ensures { result ≡ looked_up y }
 {
-    let y1 = y / 0x100;
-    let y2 = y1 / 0x100;
-    let y3 = y2 / 0x100;
-    let y4 = y3 / 0x100;
-    let y5 = y4 / 0x100;
-    let y6 = y5 / 0x100;
-    let y7 = y6 / 0x100;
-    let z6 = lookup(t, y6 % 0x100) + 0x100 * lookup(t, y7 % 0x100);
-    let z5 = lookup(t, y5 % 0x100) + 0x100 * z6;
-    let z4 = lookup(t, y4 % 0x100) + 0x100 * z5;
-    let z3 = lookup(t, y3 % 0x100) + 0x100 * z4;
-    let z2 = lookup(t, y2 % 0x100) + 0x100 * z3;
-    let z1 = lookup(t, y1 % 0x100) + 0x100 * z2;
-    lookup(t, y % 0x100) + 0x100 * z1
+    let bytes = y.to_le_bytes();
+    u64::from_le_bytes(std::array::from_fn(|i| lookup(bytes[i])))
 }
 
 // The word times 2^64, its bytes looked up, times the inverse of 2^64, which is -2^32.
-pub fn split_and_lookup(t: &[u8; 256], x: u64) -> u64
-    requires { t.now ≡ lookups }
+pub fn split_and_lookup(x: u64) -> u64
     ensures { result ≡ split_and_lookup x }
 {
-    let z = looked_up(t, field::base::reduce(x, 0));
-    field::base::neg(field::base::reduce(z / 0x1_0000_0000, z % 0x1_0000_0000 * 0x1_0000_0000))
+    let z = looked_up(base::reduce(x, 0));
+    base::neg(base::reduce(base::high(z), base::low(z) * 0x1_0000_0000))
 }

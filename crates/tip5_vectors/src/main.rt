@@ -4,7 +4,7 @@
 mod vectors;
 
 use std::io;
-use tip5::sponge::Domain;
+use tip5::sponge::{Domain, Sponge};
 
 // The words in decimal on a line.
 fn line(rt: &impl Print, words: &[u64]) -> io::Result<()> {
@@ -19,32 +19,24 @@ fn line(rt: &impl Print, words: &[u64]) -> io::Result<()> {
 
 // Sixteen words a line.
 fn state_lines(rt: &impl Print, words: &[u64]) -> io::Result<()> {
-    for i in 0..words.len() / 16 {
-        let from = 16 * i;
-        let to = from + 16;
-        line(rt, &words[from..to])?;
+    for state in words.chunks(16) {
+        line(rt, state)?;
     }
     Ok(())
 }
 
 // A sponge takes in 0, 1, .., 9 and gives out twenty words.
 fn domain_lines(rt: &impl Print, domain: Domain) -> io::Result<()> {
-    let taken = tip5::sponge::absorb(tip5::sponge::new(domain), [0, 1, 2, 3, 4, 5, 6, 7, 8, 9]);
-    let first = tip5::sponge::squeeze(taken);
-    let given = first.words;
-    line(rt, &given)?;
-    let second = tip5::sponge::squeeze(first.sponge);
-    let more = second.words;
-    line(rt, &more)
+    let first = Sponge::new(domain).absorb(vectors::numbers()).squeeze();
+    let second = first.sponge.squeeze();
+    line(rt, &first.words)?;
+    line(rt, &second.words)
 }
 
 fn lookup_line(rt: &impl Print) -> io::Result<()> {
-    let t = tip5::split_and_lookup::lookup_table();
-    let wrong = vectors::first_wrong(&t);
-    if wrong == 256 {
-        println!(rt; "lookup table: 256 entries by the rule")
-    } else {
-        println!(rt; "lookup table: not by the rule at {wrong}")
+    match vectors::first_wrong(tip5::split_and_lookup::lookup_table()) {
+        None => println!(rt; "lookup table: 256 entries by the rule"),
+        Some(place) => println!(rt; "lookup table: not by the rule at {place}"),
     }
 }
 

@@ -3,36 +3,29 @@ ghost use Rattle.std.specs.Prelude.{◌<◌};
 ghost use Rattle.tip5.specs.Words.{Words};
 ghost use Rattle.tip5_vectors.specs.Words.{AreWords};
 
-use tip5::words::copy;
+use field::base;
+use tip5::hash::{hash_10, hash_varlen};
 
 // From ten zeros, six times: words i to i + 4 become the digest of all ten. The digest of the result.
 pub fn chained() -> [u64; 5] {
     let mut words = [0u64; 10];
-    let mut i: usize = 0;
-    while i < 6 {
-        let digest = tip5::hash::hash_10(words);
-        copy(&mut words, i, &digest, 5);
-        i += 1;
+    for i in 0..6 {
+        let digest = hash_10(words);
+        words[i..i + 5].copy_from_slice(&digest);
     }
-    tip5::hash::hash_10(words)
+    hash_10(words)
 }
 
-// The numbers 0, 1, .., 15.
-pub fn numbers() -> [u64; 16] {
-    [0, 1, 2, 3, 4, 5, 6, 7, 8, 9, 10, 11, 12, 13, 14, 15]
+// The numbers 0, 1, 2 and so on.
+pub fn numbers<const N: usize>() -> [u64; N] {
+    std::array::from_fn(|i| i as u64)
 }
 
 fn add_digests(a: &[u64; 5], b: &[u64; 5]) -> [u64; 5]
     requires { (Words a.now) × (Words b.now) }
     ensures { AreWords result }
 {
-    let mut out = [0u64; 5];
-    let mut i: usize = 0;
-    while i < 5 {
-        out[i] = field::base::add(a[i], b[i]);
-        i += 1;
-    }
-    out
+    std::array::from_fn(|i| base::add(a[i], b[i]))
 }
 
 // The digest of the first n numbers.
@@ -40,42 +33,25 @@ fn digest_of(n: usize) -> [u64; 5]
     requires { n < 20 }
     ensures { AreWords result }
 {
-    let numbers: [u64; 19] = [
-        0, 1, 2, 3, 4, 5, 6, 7, 8, 9, 10, 11, 12, 13, 14, 15, 16, 17, 18,
-    ];
-    tip5::hash::hash_varlen(&numbers[..n])
+    let all: [u64; 19] = numbers();
+    hash_varlen(&all[..n])
 }
 
 // The sum of the digests of the first n numbers, for n from 0 to 19.
 pub fn varlen_sum() -> [u64; 5] {
     let mut sum = [0u64; 5];
-    let mut n: usize = 0;
-    while n < 20 {
-        let digest = digest_of(n);
-        sum = add_digests(&sum, &digest);
-        n += 1;
+    for n in 0..20 {
+        sum = add_digests(&sum, &digest_of(n));
     }
     sum
 }
 
-fn by_rule(i: u64) -> u64
-    requires { i < 256 }
-{
-    ((i + 1) * (i + 1) * (i + 1) - 1) % 257
+fn by_rule(i: u8) -> u64 {
+    let n = u64::from(i) + 1;
+    (n * n * n - 1) % 257
 }
 
-fn wide(x: u8) -> u64 {
-    x as u64
-}
-
-// The first place where the table is not by the rule; 256 where there is none.
-pub fn first_wrong(t: &[u8; 256]) -> usize {
-    let mut i: usize = 0;
-    while i < 256 {
-        if wide(t[i]) != by_rule(i as u64) {
-            return i;
-        }
-        i += 1;
-    }
-    i
+// The first place where the table is not by the rule.
+pub fn first_wrong(t: &[u8; 256]) -> Option<u8> {
+    (0..=u8::MAX).find(|i| u64::from(t[usize::from(*i)]) != by_rule(*i))
 }

@@ -7,13 +7,15 @@ use native.Mathlib.Nat.{mul-le-mul, div-add-mod', add_comm, zero-add}
 use native.Mathlib.Omega.{arith}
 use borrow.Author.Tests.{ltb-true, ltb-false}
 use lib.Dec.{lit<, ltb}
-use lib.ListN.{get_or, take}
+use lib.ListN.{get_or, length, take, length-take}
+use lib.Seq.{get_or-take}
+use Rattle.std.proofs.Common.{sum}
 use Rattle.tip5.specs.Matrix.{column, entry, sum_to, product, row_sum}
 use Rattle.tip5.specs.Split.{Below, entry_from, coefficients, half_at, halves_of, pair_of, pair_at, pairs_of, sum_from, apart_from, apart_total, wide_from, term_of, dots_of, total_of, shift_of, low_of, high_of, joined_at, Ready, Joinable, row8, product_of}
 use Rattle.tip5.specs.Tab.{tab}
-use Rattle.tip5.proofs.Tab.{tab-at, tab-below, tab_cong, tab-stored, tab-same, list_below}
+use Rattle.tip5.proofs.Tab.{take_below, tab_of, tab-length, tab-at, tab-below, tab_cong, tab-element, tab-same, list_below}
 use Rattle.tip5.proofs.matrix.Split.{row_from, sum_row, apart_row, apart_sum, low-split, high-split}
-use Rattle.tip5.proofs.matrix.Sums.{sum-cong, sum-plus, sum-scale, sum-at-most}
+use Rattle.tip5.proofs.matrix.SumTo.{sum-cong, sum-plus, sum-scale, sum-at-most, list-sum}
 
 -- ---- the column
 
@@ -69,24 +71,45 @@ part-37 = refl
 
 -- ---- sums and differences of numbers
 
+-- the first n of the sixteen that the definition has
+abbrev pub pairs : Bool → ℕ → List ℕ → List ℕ
+pairs minus n x = take n (pairs_of minus n x)
+
 module _ (minus : Bool) (n : ℕ) (x : List ℕ) (s : n ≤ 8) where
-  pair-at : (j : ℕ) → j < n → get_or (pairs_of minus n x) j 0 ≡ pair_of minus (get_or x j 0) (get_or x (n + j) 0)
+  pair-at : (j : ℕ) → j < n → get_or (pairs minus n x) j 0 ≡ pair_of minus (get_or x j 0) (get_or x (n + j) 0)
   unfolding pairs_of
   pair-at j h =
       let e : (j + n) % 16 ≡ n + j = omega arith in
-      tab-at (pair_at minus n x) 16 j (omega arith) ∙ ap (λ (k : ℕ). pair_of minus (get_or x j 0) (get_or x k 0)) e
+      get_or-take n (pairs_of minus n x) j 0 h ∙ tab-at (pair_at minus n x) 16 j (omega arith) ∙ ap (λ (k : ℕ). pair_of minus (get_or x j 0) (get_or x k 0)) e
 
-sums-below : (n b : ℕ) (x : List ℕ) → 0 < b → Below x b → Below (pairs_of false n x) (b + b)
-unfolding pairs_of
-sums-below n b x z h = tab-below (pair_at false n x) (b + b) (omega arith) (λ (k : ℕ). omega (arith, h k, h ((k + n) % 16))) 16
+  pub pairs_are : tab (λ (j : ℕ). pair_of minus (get_or x j 0) (get_or x (j + n) 0)) n ≡ pairs minus n x
+  unfolding pairs_of
+  pairs_are =
+      let long : length (pairs_of minus n x) ≡ 16 = tab-length (pair_at minus n x) 16 in
+      sym (tab_of _ n (pairs minus n x) (length-take n (pairs_of minus n x) ∙ omega arith)
+      (λ (j : ℕ) (h : j < n). let e : n + j ≡ j + n = omega arith in pair-at j h ∙ ap (λ (k : ℕ). pair_of minus (get_or x j 0) (get_or x k 0)) e))
 
-pub pairs_below : (minus : Bool) (n : ℕ) (x : List ℕ) → Below x (2 ^ 33) → Below (pairs_of minus n x) (2 ^ 34)
+sums-below : (n b : ℕ) (x : List ℕ) → 0 < b → Below x b → Below (pairs false n x) (b + b)
 unfolding pairs_of
-pairs_below true n x h = tab-below (pair_at true n x) (2 ^ 34) (lit< tt) (λ (k : ℕ). omega (arith, h k)) 16
+sums-below n b x z h =
+    take_below n (pairs_of false n x) (b + b) (omega arith) (tab-below (pair_at false n x) (b + b) (omega arith) (λ (k : ℕ). omega (arith, h k, h ((k + n) % 16))) 16)
+
+pub pairs_below : (minus : Bool) (n : ℕ) (x : List ℕ) → Below x (2 ^ 33) → Below (pairs minus n x) (2 ^ 34)
+unfolding pairs_of
+pairs_below true n x h = take_below n (pairs_of true n x) (2 ^ 34) (lit< tt) (tab-below (pair_at true n x) (2 ^ 34) (lit< tt) (λ (k : ℕ). omega (arith, h k)) 16)
 pairs_below false n x h = sums-below n (2 ^ 33) x (lit< tt) h
 
-pub halves-sums-below : (x : List ℕ) → Below x (2 ^ 32) → Below (pairs_of false 8 x) (2 ^ 33)
+pub halves-sums-below : (x : List ℕ) → Below x (2 ^ 32) → Below (pairs false 8 x) (2 ^ 33)
 halves-sums-below x h = sums-below 8 (2 ^ 32) x (lit< tt) h
+
+-- a sum of at most eight differences fits
+pub total-small : (n m : ℕ) (x d : List ℕ) → m ≤ 8 → Below x (2 ^ 33) → length d ≡ m → d ≡ pairs true n x → sum d < 2 ^ 64
+total-small n m x d few h long e =
+    let l = sum-at-most (λ (j : ℕ). get_or d j 0) (2 ^ 34) m (λ (j : ℕ) (g : j < m). let below : get_or d j 0 < 2 ^ 34 = rw e (pairs_below true n x h j) in omega arith) in
+    rw (list-sum d m long) (omega arith)
+
+pub summed_total : (n m t : ℕ) (x d : List ℕ) → length d ≡ m → d ≡ pairs true n x → t ≡ sum d → t ≡ total_of (pairs true n x) m
+summed_total n m t x d long e h = h ∙ list-sum d m long ∙ ap (λ (l : List ℕ). total_of l m) e
 
 -- ---- joining
 
@@ -117,10 +140,10 @@ module _ (n : ℕ) (T : ℕ → ℕ) (x p q : List ℕ) (g w s : ℕ) (size : n 
     (differences : (k : ℕ) → k < n + n - 1 → get_or coefficients (g + k) 0 ≡ apart_from T n k)
     (totals : (i : ℕ) → i < n → get_or coefficients (w + i) 0 ≡ apart_total T n i)
     (sums : (i : ℕ) → i < n → get_or p i 0 ≡ sum_row T (nth x) n i)
-    (products : take n q ≡ tab (dots_of g (pairs_of true n x) n) n)
-    (total : s ≡ total_of (pairs_of true n x) n)
+    (products : q ≡ tab (dots_of g (pairs true n x) n) n)
+    (total : s ≡ total_of (pairs true n x) n)
   where
-    term_is : (i : ℕ) → i < n → (j : ℕ) → j < n → term_of (g + (n - 1 - i)) (pairs_of true n x) j ≡ apart_from T n (n - 1 - i + j) * (nth x j + 2 ^ 33 - nth x (n + j))
+    term_is : (i : ℕ) → i < n → (j : ℕ) → j < n → term_of (g + (n - 1 - i)) (pairs true n x) j ≡ apart_from T n (n - 1 - i + j) * (nth x j + 2 ^ 33 - nth x (n + j))
     term_is i h j l =
         let e : g + (n - 1 - i) + j ≡ g + (n - 1 - i + j) = omega arith in
         let d = ap (λ (k : ℕ). get_or coefficients k 0) e ∙ differences (n - 1 - i + j) (omega arith) in
@@ -129,15 +152,15 @@ module _ (n : ℕ) (T : ℕ → ℕ) (x p q : List ℕ) (g w s : ℕ) (size : n 
 
     q-is : (i : ℕ) → i < n → get_or q i 0 ≡ apart_row T (nth x) n i
     q-is i h =
-        tab-stored (dots_of g (pairs_of true n x) n) q n i products h
-        ∙ sum-cong (term_of (g + (n - 1 - i)) (pairs_of true n x)) (λ (j : ℕ). apart_from T n (n - 1 - i + j) * (nth x j + 2 ^ 33 - nth x (n + j))) n (term_is i h)
+        tab-element (dots_of g (pairs true n x) n) q n i products h
+        ∙ sum-cong (term_of (g + (n - 1 - i)) (pairs true n x)) (λ (j : ℕ). apart_from T n (n - 1 - i + j) * (nth x j + 2 ^ 33 - nth x (n + j))) n (term_is i h)
 
     total-is : s ≡ apart_sum (nth x) n
-    total-is = total ∙ sum-cong (nth (pairs_of true n x)) (λ (j : ℕ). nth x j + 2 ^ 33 - nth x (n + j)) n (pair-at true n x size)
+    total-is = total ∙ sum-cong (nth (pairs true n x)) (λ (j : ℕ). nth x j + 2 ^ 33 - nth x (n + j)) n (pair-at true n x size)
 
     total-below : s < 2 ^ 38
     total-below =
-        let l = sum-at-most (nth (pairs_of true n x)) (2 ^ 34) n (λ (j : ℕ) (h : j < n). omega (arith, pairs_below true n x number j)) in
+        let l = sum-at-most (nth (pairs true n x)) (2 ^ 34) n (λ (j : ℕ) (h : j < n). omega (arith, pairs_below true n x number j)) in
         omega arith
 
     shift_is : (i : ℕ) → i < n → shift_of w s i ≡ 2 ^ 33 * apart_total T n i + 2 ^ 17 * apart_sum (nth x) n
@@ -188,11 +211,11 @@ module _ (n : ℕ) (T : ℕ → ℕ) (x p q : List ℕ) (g w s : ℕ) (size : n 
 -- ---- the two levels
 
 module _ (x p q : List ℕ) (s : ℕ) (number : Below x (2 ^ 33))
-    (sums : take 4 p ≡ tab (dots_of 22 (pairs_of false 4 x) 4) 4)
-    (products : take 4 q ≡ tab (dots_of 15 (pairs_of true 4 x) 4) 4)
-    (total : s ≡ total_of (pairs_of true 4 x) 4)
+    (sums : p ≡ tab (dots_of 22 (pairs false 4 x) 4) 4)
+    (products : q ≡ tab (dots_of 15 (pairs true 4 x) 4) 4)
+    (total : s ≡ total_of (pairs true 4 x) 4)
   where
-    sum-term : (i : ℕ) → i < 4 → (j : ℕ) → j < 4 → term_of (22 + (3 - i)) (pairs_of false 4 x) j ≡ sum_from wide_from 4 (3 - i + j) * (nth x j + nth x (4 + j))
+    sum-term : (i : ℕ) → i < 4 → (j : ℕ) → j < 4 → term_of (22 + (3 - i)) (pairs false 4 x) j ≡ sum_from wide_from 4 (3 - i + j) * (nth x j + nth x (4 + j))
     sum-term i h j l =
         let e : 22 + (3 - i) + j ≡ 22 + (3 - i + j) = omega arith in
         let d = ap (λ (k : ℕ). get_or coefficients k 0) e ∙ tab-same _ _ 7 (3 - i + j) part-22 (omega arith) in
@@ -201,8 +224,8 @@ module _ (x p q : List ℕ) (s : ℕ) (number : Below x (2 ^ 33))
 
     sums-4 : (i : ℕ) → i < 4 → get_or p i 0 ≡ sum_row wide_from (nth x) 4 i
     sums-4 i h =
-        tab-stored (dots_of 22 (pairs_of false 4 x) 4) p 4 i sums h
-        ∙ sum-cong (term_of (22 + (3 - i)) (pairs_of false 4 x)) (λ (j : ℕ). sum_from wide_from 4 (3 - i + j) * (nth x j + nth x (4 + j))) 4 (sum-term i h)
+        tab-element (dots_of 22 (pairs false 4 x) 4) p 4 i sums h
+        ∙ sum-cong (term_of (22 + (3 - i)) (pairs false 4 x)) (λ (j : ℕ). sum_from wide_from 4 (3 - i + j) * (nth x j + nth x (4 + j))) 4 (sum-term i h)
 
     pub joinable-4 : Joinable p q 37 s 4
     joinable-4 =
@@ -216,17 +239,17 @@ module _ (x p q : List ℕ) (s : ℕ) (number : Below x (2 ^ 33))
         (λ (k : ℕ) (h : k < 4). tab-same _ _ 4 k part-37 h) sums-4 products total)
 
 module _ (x p q : List ℕ) (s : ℕ) (number : Below x (2 ^ 32))
-    (sums : take 8 p ≡ tab (row8 (pairs_of false 8 x)) 8)
-    (products : take 8 q ≡ tab (dots_of 0 (pairs_of true 8 x) 8) 8)
-    (total : s ≡ total_of (pairs_of true 8 x) 8)
+    (sums : p ≡ tab (row8 (pairs false 8 x)) 8)
+    (products : q ≡ tab (dots_of 0 (pairs true 8 x) 8) 8)
+    (total : s ≡ total_of (pairs true 8 x) 8)
   where
     number-8 : Below x (2 ^ 33)
     number-8 k = omega (arith, number k)
 
     sums-8 : (i : ℕ) → i < 8 → get_or p i 0 ≡ sum_row entry_from (nth x) 8 i
     sums-8 i h =
-        tab-stored (row8 (pairs_of false 8 x)) p 8 i sums h
-        ∙ sum-cong (λ (j : ℕ). wide_from (7 - i + j) * nth (pairs_of false 8 x) j) (λ (j : ℕ). sum_from entry_from 8 (7 - i + j) * (nth x j + nth x (8 + j))) 8
+        tab-element (row8 (pairs false 8 x)) p 8 i sums h
+        ∙ sum-cong (λ (j : ℕ). wide_from (7 - i + j) * nth (pairs false 8 x) j) (λ (j : ℕ). sum_from entry_from 8 (7 - i + j) * (nth x j + nth x (8 + j))) 8
         (λ (j : ℕ) (l : j < 8). ap (λ (e : ℕ). wide_from (7 - i + j) * e) (pair-at false 8 x (omega arith) j l))
 
     differences-8 : (k : ℕ) → k < 15 → get_or coefficients (0 + k) 0 ≡ apart_from entry_from 8 k
@@ -269,6 +292,10 @@ half_at_lem : (upper : Bool) (s : List ℕ) (j : ℕ) → j < 16 → get_or (hal
 unfolding halves_of
 half_at_lem upper s j h = tab-at (half_at upper s) 16 j h
 
+pub halves-below : (upper : Bool) (s : List ℕ) → Below s (2 ^ 64) → Below (tab (half_at upper s) 16) (2 ^ 32)
+halves-below true s h = tab-below (half_at true s) (2 ^ 32) (lit< tt) (λ (k : ℕ). omega (arith, h k)) 16
+halves-below false s h = tab-below (half_at false s) (2 ^ 32) (lit< tt) (λ (k : ℕ). omega arith) 16
+
 half-term : (s : List ℕ) (i j : ℕ) → j < 16 → product (halves_of true s) i j * 2 ^ 32 + product (halves_of false s) i j ≡ product s i j
 half-term s i j h =
     (λ n. entry i j * half_at_lem true s j h n * 2 ^ 32 + entry i j * half_at_lem false s j h n)
@@ -293,5 +320,6 @@ module _ (upper : Bool) (s x r : List ℕ) (i : ℕ) (e : x ≡ halves_of upper 
   unfolding product_of
   half-row = ap (λ (l : List ℕ). get_or l i 0) (g ∙ ap product_of e) ∙ tab-at (row_sum (halves_of upper s)) 16 i h
 
-  pub half-row-below : Below x (2 ^ 32) → get_or r i 0 < 2 ^ 53
-  half-row-below l = rw half-row (row_below (halves_of upper s) i (rw e at l))
+pub product-below : (x r : List ℕ) → r ≡ product_of x → Below x (2 ^ 32) → Below r (2 ^ 53)
+unfolding product_of
+product-below x r e h = rw e (tab-below (row_sum x) (2 ^ 53) (lit< tt) (λ (i : ℕ). row_below x i h) 16)

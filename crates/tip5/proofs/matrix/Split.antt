@@ -4,7 +4,7 @@ use Prim.Native.Nat.{ℕ, zero, suc, ◌+◌, ◌*◌, ◌-◌, ◌^◌, ◌<◌
 use native.Mathlib.Omega.{arith}
 use Rattle.tip5.specs.Matrix.{sum_to, sum_zero, sum_suc}
 use Rattle.tip5.specs.Split.{sum_from, apart_from, apart_total}
-use Rattle.tip5.proofs.matrix.Sums.{sum-cong, sum-split}
+use Rattle.tip5.proofs.matrix.SumTo.{sum-cong, sum-split}
 
 -- ---- one term: a and b are coefficients, x and y numbers, g and d their differences above B and D
 

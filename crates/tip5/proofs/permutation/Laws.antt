@@ -1,12 +1,14 @@
 -- The permutation and the trace: their lengths, the last state, and that their elements are words. Assumes nothing.
-use mathlib.Core.List.{List, [], ◌++◌}
+use mathlib.Core.List.{List, ◌++◌}
 use mathlib.Core.Path.{◌≡◌, refl, sym, ap, ◌∙◌}
-use Prim.Native.Nat.{ℕ, zero, suc, ◌+◌, ◌*◌, ◌<◌, ◌≤◌}
+use Prim.Native.Nat.{ℕ, zero, suc, ◌+◌, ◌*◌, ◌<◌}
 use native.Mathlib.Nat.{le_of_eq}
 use native.Mathlib.Numerals.{add-one}
 use native.Mathlib.Omega.{arith}
 use lib.ListN.{length, take, drop, length-append}
-use lib.Seq.{drop_at, paste, take-paste, take_all}
+use lib.Seq.{take_at, drop_at, length-paste, take-paste, take_all}
+use borrow.Rule.Slice.PartMut.{put_mid}
+use Rattle.std.proofs.lemmas.Slice.{put_mid-paste}
 use Rattle.field.specs.Base.{p}
 use Rattle.tip5.specs.Permutation.{state_of, permutation_of, states_of, trace_of}
 use Rattle.tip5.specs.Round.{round_of}
@@ -84,20 +86,23 @@ trace-words s h = states-words 5 s h
 
 -- ---- the loop of `trace`
 
--- state n goes behind the states before it
-put : (d s a : List ℕ) (at : ℕ) → at + 16 ≤ length d → length s ≡ 16 → take at d ≡ a → take (at + 16) (paste d at s 16) ≡ a ++ s
-put d s a at h g e = take-paste d at s 16 (omega arith) (omega arith) ∙ (λ i. e i ++ take_all 16 s (le_of_eq g) i)
+pub trace-start : (d s e : List ℕ) → d ≡ s → length s ≡ 16 → length e ≡ 80 → (length (d ++ e) ≡ 96) × (s ≡ state_of 0 s) × (take 16 (d ++ e) ≡ states_of 0 s)
+trace-start d s e h g l =
+    let n : length d ≡ 16 = ap length h ∙ g in
+    (length-append d e ∙ omega arith, sym (state-zero s), take_at d e 16 n ∙ h ∙ sym (states-zero s))
 
-pub trace-start : (d s : List ℕ) → length d ≡ 96 → length s ≡ 16 → take 16 (paste d 0 s 16) ≡ states_of 0 s
-trace-start d s h g = put d s [] 0 (omega arith) g refl ∙ sym (states-zero s)
-
-pub trace-more : (d s a : List ℕ) (r : ℕ) → length d ≡ 96 → r < 5 → s ≡ round_of r (state_of r a) → take (16 * r + 16) d ≡ states_of r a
-    → take (16 * (r + 1) + 16) (paste d (16 * (r + 1)) s 16) ≡ states_of (r + 1) a
-trace-more d s a r h l e g =
-    let at : 16 * r + 16 ≡ 16 * (r + 1) = omega arith in
-    put d s (states_of r a) (16 * (r + 1)) (omega arith) (ap length e ∙ round-length r (state_of r a)) (sym (ap (λ (n : ℕ). take n d) at) ∙ g)
-    ∙ ap (λ (x : List ℕ). states_of r a ++ x) (e ∙ sym (state-more r a))
-    ∙ sym (states-more r a)
+-- state r + 1 goes behind the states before it
+pub trace-more : (d e s a : List ℕ) (r k : ℕ) → k ≡ 16 → length d ≡ 96 → r < 5 → e ≡ s → s ≡ round_of r (state_of r a) → take (16 * r + 16) d ≡ states_of r a
+    → (length (put_mid (16 * r + 16) k d e) ≡ 96) × (s ≡ state_of (r + 1) a) × (take (16 * (r + 1) + 16) (put_mid (16 * r + 16) k d e) ≡ states_of (r + 1) a)
+trace-more d e s a r k m h l f is g =
+    let long : length s ≡ 16 = ap length is ∙ round-length r (state_of r a) in
+    let put = put_mid-paste (16 * r + 16) k d e s 16 f (sym m) (sym long) in
+    let next : s ≡ state_of (r + 1) a = is ∙ sym (state-more r a) in
+    let at : 16 * (r + 1) + 16 ≡ 16 * r + 16 + 16 = omega arith in (
+      ap length put ∙ length-paste d (16 * r + 16) s 16 (omega arith) (omega arith) ∙ h,
+      next,
+      (λ i. take (at i) (put i)) ∙ take-paste d (16 * r + 16) s 16 (omega arith) (omega arith) ∙ (λ i. g i ++ (take_all 16 s (le_of_eq long) ∙ next) i) ∙ sym (states-more r a),
+    )
 
 pub trace-all : (d a : List ℕ) (r : ℕ) → length d ≡ 96 → r ≡ 5 → take (16 * r + 16) d ≡ states_of r a → d ≡ trace_of a
 unfolding trace_of

@@ -1,8 +1,10 @@
 -- Split-and-lookup: the code's bytes and its product with the inverse of 2^64. Assumes nothing.
-use mathlib.Core.List.{[], ◌∷◌}
+use mathlib.Core.List.{List, map, [], ◌∷◌}
+use Rattle.std.specs.Int.{w64, to_le_bytes, from_le_bytes}
+use Rattle.tip5.specs.Tab.{tab}
 use mathlib.Core.Path.{◌≡◌, ap, ◌∙◌}
 use Prim.Native.Nat.{ℕ, ◌+◌, ◌*◌, ◌-◌, ◌/◌, ◌%◌, ◌^◌, ◌<◌}
-use native.Mathlib.Nat.{mod-mod, add-zero}
+use native.Mathlib.Nat.{mod-mod, add-zero, div-div-eq-div-mul}
 use native.Mathlib.Omega.{arith}
 use lib.ListN.{get_or}
 use Rattle.field.specs.Base.{p, neg_p, mul_p}
@@ -17,25 +19,19 @@ unfolding lookups
 lookups-at b h = tab-at lookup_of 256 b h
 
 read : (b₀ b₁ b₂ b₃ b₄ b₅ b₆ b₇ : ℕ)
-    → b₀ + 256 * (b₁ + 256 * (b₂ + 256 * (b₃ + 256 * (b₄ + 256 * (b₅ + 256 * (b₆ + 256 * b₇))))))
+    → b₀ + b₁ * 256 + b₂ * 256 ^ 2 + b₃ * 256 ^ 3 + b₄ * 256 ^ 4 + b₅ * 256 ^ 5 + b₆ * 256 ^ 6 + b₇ * 256 ^ 7
     ≡ number_of (b₀ ∷ b₁ ∷ b₂ ∷ b₃ ∷ b₄ ∷ b₅ ∷ b₆ ∷ b₇ ∷ [])
 unfolding number_of
 read b₀ b₁ b₂ b₃ b₄ b₅ b₆ b₇ = omega arith
 
+bytes-are : (y : ℕ) → to_le_bytes w64 y ≡ bytes_of 8 y
+unfolding bytes_of
+bytes-are y = simp div-div-eq-div-mul
+
 -- eight bytes looked up one by one
-pub looked-up-is : (y : ℕ) {b₀ b₁ b₂ b₃ b₄ b₅ b₆ b₇ : ℕ}
-    → b₀ ≡ lookup_of (y % 256)
-    → b₁ ≡ lookup_of (y / 256 % 256)
-    → b₂ ≡ lookup_of (y / 256 / 256 % 256)
-    → b₃ ≡ lookup_of (y / 256 / 256 / 256 % 256)
-    → b₄ ≡ lookup_of (y / 256 / 256 / 256 / 256 % 256)
-    → b₅ ≡ lookup_of (y / 256 / 256 / 256 / 256 / 256 % 256)
-    → b₆ ≡ lookup_of (y / 256 / 256 / 256 / 256 / 256 / 256 % 256)
-    → b₇ ≡ lookup_of (y / 256 / 256 / 256 / 256 / 256 / 256 / 256 % 256)
-    → b₀ + 256 * (b₁ + 256 * (b₂ + 256 * (b₃ + 256 * (b₄ + 256 * (b₅ + 256 * (b₆ + 256 * b₇)))))) ≡ looked_up y
-unfolding looked_up bytes_of
-looked-up-is y e₀ e₁ e₂ e₃ e₄ e₅ e₆ e₇ =
-    read _ _ _ _ _ _ _ _ ∙ (λ i. number_of (e₀ i ∷ e₁ i ∷ e₂ i ∷ e₃ i ∷ e₄ i ∷ e₅ i ∷ e₆ i ∷ e₇ i ∷ []))
+pub looked-up-is : (y : ℕ) (l : List ℕ) → l ≡ tab (λ (i : ℕ). lookup_of (get_or (to_le_bytes w64 y) i 0)) 8 → from_le_bytes w64 l ≡ looked_up y
+unfolding looked_up tab
+looked-up-is y l e = ap (from_le_bytes w64) e ∙ read _ _ _ _ _ _ _ _ ∙ ap (λ (bs : List ℕ). number_of (map lookup_of bs)) (bytes-are y)
 
 pub scaled-is : (x : ℕ) → (x * 2 ^ 64 + 0) % p ≡ mul_p x (2 ^ 64)
 scaled-is x = ap (λ (y : ℕ). y % p) (add-zero (x * 2 ^ 64))

@@ -1,20 +1,15 @@
-use mathlib.Core.Path.{sym, ◌∙◌}
-use native.Mathlib.Nat.{mod-eq_of_lt}
-use native.Mathlib.Omega.{arith}
+use Rattle.std.proofs.Common.{sym, ◌∙◌, arith}
+use Rattle.std.proofs.Math.Nat.{mod-eq_of_lt}
 use Rattle.field.specs.Base.{p}
 use Rattle.field.proofs.Remainder.{pow_one}
 use Rattle.field.proofs.Power.{doubled, raised_all}
 use Rattle.field.proofs.base.squared.Goals as goal
 
-pub loop-i-init : goal.loop-i-init
-loop-i-init c = (omega arith, sym (mod-eq_of_lt c.requires) ∙ pow_one p c.args.x)
+pub loop-init : goal.loop-init
+loop-init c = sym (mod-eq_of_lt c.requires) ∙ pow_one p c.args.x
 
-pub loop-i-preserved : goal.loop-i-preserved
-loop-i-preserved c =
-    let l = c.loop-i in
-    (omega arith, doubled c.args.x l.i l.invariant.1 c.mul-r.ensures)
+pub loop-preserved : goal.loop-preserved
+loop-preserved c = doubled c.args.x c.loop.counter c.loop.invariant c.mul-r.ensures
 
 pub returns : goal.returns
-returns c =
-    let l = c.loop-i in
-    raised_all c.args.x l.i c.args.n l.invariant.1 (omega arith)
+returns c = raised_all c.args.x c.loop.counter c.args.n c.loop.invariant (omega arith)

@@ -1,17 +1,28 @@
-use mathlib.Core.Bool.{true, false}
-use Rattle.machine.specs.Arithmetic.{zero_x, xst}
-use Rattle.machine.specs.Arithmetic.{x_invert_of}
+use Rattle.std.proofs.Common.{Bool, true, false, ◌&&◌, cond, eqb, ◌≡◌, refl, sym, ap, ◌∙◌}
+use Rattle.field.specs.Extension.{lift_x}
+use Rattle.field.specs.declared.extension.XFieldElement.{XFieldElement}
+use Rattle.machine.specs.Arithmetic.{zero_x, xst, x_invert_of}
 use Rattle.machine.specs.Refusal.{refusal_of}
-use Prim.Native.Nat.{◌-◌}
-use mathlib.Core.Path.{◌≡◌, sym, ap, ◌∙◌}
 use Rattle.machine_arithmetic.proofs.arithmetic.x_invert.Goals as goal
 
-pub returns-then-is_zero : goal.returns-then-is_zero
+all : (a b c : Bool) → (a && (b && c)) ≡ cond a (cond b c false) false
+all true true c = refl
+all true false c = refl
+all false b c = refl
+
+-- a comparison with 0, coefficient by coefficient
+zero : (x z : XFieldElement) (b : Bool) → z ≡ lift_x 0 → b ≡ (eqb x.c0 z.c0 && (eqb x.c1 z.c1 && eqb x.c2 z.c2)) → zero_x x ≡ b
+unfolding zero_x
+zero x z b e h = sym (rw e at h ∙ all (eqb x.c0 0) (eqb x.c1 0) (eqb x.c2 0))
+
+pub returns-then-eq : goal.returns-then-eq
 unfolding x_invert_of refusal_of
-returns-then-is_zero c = let e : zero_x (xst c.args.w 0) ≡ true = ap zero_x (sym c.element-x.ensures.0) ∙ sym c.is_zero.ensures ∙ c.if-is_zero.true in
+returns-then-eq c =
+    let e : zero_x (xst c.args.w 0) ≡ true = ap zero_x (sym c.element-x.ensures.0) ∙ zero _ _ _ c.from.ensures c.eq.ensures ∙ c.if-eq.true in
     rw (c.refuse.ensures, e)
 
-pub returns-else-is_zero : goal.returns-else-is_zero
+pub returns-else-eq : goal.returns-else-eq
 unfolding x_invert_of
-returns-else-is_zero c = let e : zero_x (xst c.args.w 0) ≡ false = ap zero_x (sym c.element-x.ensures.0) ∙ sym c.is_zero.ensures ∙ c.if-is_zero.false in
+returns-else-eq c =
+    let e : zero_x (xst c.args.w 0) ≡ false = ap zero_x (sym c.element-x.ensures.0) ∙ zero _ _ _ c.from.ensures c.eq.ensures ∙ c.if-eq.false in
     rw (c.put3.ensures, c.inverse_or_zero-y.ensures, c.element-x.ensures.0, e)

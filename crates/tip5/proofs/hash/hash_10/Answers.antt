@@ -1,7 +1,7 @@
-use mathlib.Core.Path.{◌∙◌}
+use Rattle.std.proofs.Common.{◌∙◌}
 use Rattle.tip5.specs.Hash.{hash10_of}
 use Rattle.tip5.proofs.hash.hash_10.Goals as goal
 
 pub returns : goal.returns
 unfolding hash10_of
-returns c = c.digest.ensures ∙ rw (c.absorb-s.ensures, c.new.ensures)
+returns c = c.first.ensures ∙ rw (c.absorb.ensures, c.new.ensures)

@@ -1,11 +1,6 @@
-use mathlib.Core.Path.{◌≡◌}
-use Prim.Native.Nat.{◌+◌, ◌*◌, ◌-◌, ◌≤◌}
-use lib.ListN.{take, length}
+use Rattle.std.proofs.Common.{◌≡◌, ◌+◌, ◌*◌, take, length}
 use Rattle.tip5.specs.Permutation.{state_of, states_of}
 use Rattle.tip5.proofs.permutation.trace.Given as goal
 
 abbrev pub invariant-loop-r : goal.invariant-loop-r
-invariant-loop-r l = (l.r ≤ 5) × (length l.out ≡ 96) × (l.s ≡ state_of l.r l.initial.s) × (take (16 * l.r + 16) l.out ≡ states_of l.r l.initial.s)
-
-abbrev pub decreases-loop-r : goal.decreases-loop-r
-decreases-loop-r l = 5 - l.r
+invariant-loop-r l = (length l.out ≡ 96) × (l.s ≡ state_of l.r l.initial.s) × (take (16 * l.r + 16) l.out ≡ states_of l.r l.initial.s)

@@ -1,4 +1,4 @@
-use mathlib.Core.Path.{refl}
+use Rattle.std.proofs.Common.{refl}
 use Rattle.tip5.specs.Round.{constants}
 use Rattle.tip5.proofs.round.constant_table.Goals as goal
 

@@ -1,22 +1,8 @@
-use mathlib.Core.Path.{refl, sym}
-use native.Mathlib.Omega.{arith}
-use borrow.Author.Rules.{rules}
-use lib.ListN.{length-set}
+use Rattle.std.proofs.Common.{rules}
 use Rattle.tip5.specs.Sbox.{sbox_layer_of}
-use Rattle.tip5.specs.Tab.{tab_zero}
-use Rattle.tip5.proofs.Tab.{tab-more, tab-all}
+use Rattle.tip5.proofs.FromFn.{tab_from_fn}
 use Rattle.tip5.proofs.sbox.sbox_layer.Goals as goal
-
-pub loop-i-init : goal.loop-i-init
-loop-i-init c = (search rules, refl, sym (tab_zero _))
-
-pub loop-i-preserved : goal.loop-i-preserved
-loop-i-preserved c =
-    let l = c.loop-i in
-    (omega arith, simp length-set l.invariant.1, tab-more _ l.out l.i _ (omega arith) l.invariant.2 c.sbox.ensures)
 
 pub returns : goal.returns
 unfolding sbox_layer_of
-returns c =
-    let l = c.loop-i in
-    tab-all _ l.out l.i 16 l.invariant.1 (omega arith) l.invariant.2
+returns c = tab_from_fn _ _ _ _ _ c.from_fn.ensures.items (λ i y q lt k. search rules)

@@ -1,6 +1,5 @@
-use mathlib.Core.Path.{◌∙◌}
 use Rattle.tip5.proofs.split_and_lookup.Laws.{lookups-at}
 use Rattle.tip5.proofs.split_and_lookup.lookup.Goals as goal
 
 pub returns : goal.returns
-returns c = (c.wide.ensures.0 ∙ rw c.requires.1 (lookups-at c.args.b c.requires.0), c.wide.ensures.1)
+returns c = rw (c.lookup_table.ensures, c.from.ensures) (lookups-at c.args.b c.ranges.b.fits)

@@ -1,8 +1,0 @@
-use mathlib.Core.Path.{refl}
-use Rattle.tip5.proofs.matrix.pair.Goals as goal
-
-pub returns-then-minus : goal.returns-then-minus
-returns-then-minus c = rw c.if-minus.true refl
-
-pub returns-else-minus : goal.returns-else-minus
-returns-else-minus c = rw c.if-minus.false refl
