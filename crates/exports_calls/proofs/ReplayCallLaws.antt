@@ -4,10 +4,8 @@ use mathlib.Core.List.{List, [], ◌∷◌}
 use Prim.Native.Nat.{ℕ}
 use borrow.Author.Tests.{eq-eqb, ne_eqb}
 use lib.ListN.{length}
-use Rattle.machine.specs.Ram.{Cells, cells}
-use Rattle.replay_calls.specs.declared.call.Answer.{Answer}
-use Rattle.replay.specs.Replay.{replay_of}
-use Rattle.replay_calls.specs.ReplayView.{replayed_by}
+use Rattle.machine.specs.Ram.{Cells}
+use Rattle.replay.specs.Replay.{Replayed, replay_of}
 use Rattle.exports_calls.specs.ReplayCall.{replied, replay_call}
 
 module _ (a log s : List ℕ) (v j : ℕ) (c : Cells) where
@@ -15,7 +13,6 @@ module _ (a log s : List ℕ) (v j : ℕ) (c : Cells) where
   unfolding replay_call
   replay_misfits h = rw (ne_eqb (length a) 3 h)
 
-  pub replay_called : (r : Answer) (b t addresses values : List ℕ) → length a ≡ 3 → replayed_by r t (cells r.cells addresses values) ≡ replay_of v log c s j →
-      b ≡ (r.number ∷ r.depth ∷ r.cells ∷ []) → replied r.number b t addresses values ≡ replay_call a log v j c s
+  pub replay_called : (r : Replayed) (b x y : List ℕ) → length a ≡ 3 → r ≡ replay_of v log c s j → b ≡ (r.number ∷ r.depth ∷ r.count ∷ []) → x ≡ r.addresses → y ≡ r.values → replied r.number b r.words x y ≡ replay_call a log v j c s
   unfolding replay_call
-  replay_called r b t addresses values h e w = rw (eq-eqb (length a) 3 h, ← e, w)
+  replay_called r b x y h e w d f = rw (eq-eqb (length a) 3 h, ← e, w, d, f)

@@ -3,15 +3,15 @@ ghost use Rattle.std.specs.Prelude.{◌≡◌, [] as Nil, ◌∷◌, length};
 ghost use Rattle.machine.specs.Ram.{cells as cells_of};
 ghost use Rattle.exports_calls.specs.ReplayCall.{replied, replay_call};
 
-use replay_calls::call::{Answer, replay};
-use tip5::words::copy;
+use replay_calls::call::replay;
+use replay_scan::record::Log;
+use replay_table::cells::Cells;
 
-fn write_rebuilt(rebuilt: &mut [u64], r: Answer)
+fn write_rebuilt(rebuilt: &mut [u64], number: u64, depth: usize, cells: usize)
     requires { length rebuilt.old ≡ 3 }
-    ensures { rebuilt.new ≡ (r.number ∷ r.depth ∷ r.cells ∷ Nil) }
+    ensures { rebuilt.new ≡ (number ∷ depth ∷ cells ∷ Nil) }
 {
-    let words = [r.number, r.depth as u64, r.cells as u64];
-    copy(rebuilt, 0, &words, 3);
+    rebuilt.copy_from_slice(&[number, depth as u64, cells as u64]);
 }
 
 // Refused, everything lent but the answer is as it was.
@@ -31,15 +31,24 @@ pub fn replay_call(
     if rebuilt.len() != 3 {
         return 1;
     }
-    let r = replay(
-        log,
+    let log = Log {
+        bytes: log,
         revision,
+    };
+    let mut ram = Cells {
         addresses,
         values,
-        cells as usize,
-        words,
-        clock,
-    );
-    write_rebuilt(rebuilt, r);
-    r.number
+        count: cells as usize,
+    };
+    match replay(log, &mut ram, words, clock) {
+        Ok(depth) => {
+            write_rebuilt(rebuilt, 0, depth, ram.count);
+            0
+        }
+        Err(refusal) => {
+            let number = refusal.number();
+            write_rebuilt(rebuilt, number, 0, 0);
+            number
+        }
+    }
 }

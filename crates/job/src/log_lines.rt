@@ -17,7 +17,10 @@ pub fn record_length(log: &[u8], at: usize) -> usize
     if log.len() - at < 4 {
         return 0;
     }
-    whole_at(log, at, length_of(1, kind_at(log, at)))
+    match length_of(1, kind_at(log, at)) {
+        Some(size) => whole_at(log, at, size),
+        None => 0,
+    }
 }
 
 // The line of the record of kind 4 at place `at`, behind place `to`.

@@ -8,12 +8,19 @@ use borrow.Author.Tests.{ne_eqb, eqb-true}
 use lib.ListN.{length, replicate}
 use lib.Dec.{eqb}
 use Rattle.machine.specs.Words.{p}
-use Rattle.machine.specs.Ram.{Cells, cells}
-use Rattle.machine.specs.Records.{Record, stack}
+use Rattle.machine.specs.Ram.{Cells}
+use Rattle.machine.specs.Records.{Record}
 use Rattle.replay_group.specs.declared.group.Sweep.{Sweep}
 use Rattle.replay_scan.specs.declared.scan.Scan.{Scan}
-use Rattle.replay_calls.specs.declared.call.Answer.{Answer}
-use Rattle.replay.specs.Replay.{started, Went, bad, fine, finished, replay_a, replay_of}
+use Rattle.std.specs.Prelude.{Ok, Err}
+use Rattle.replay_scan.specs.declared.fault.Fault.{Fault}
+use Rattle.replay_scan.specs.FaultView.{fault_number, fault_or_0}
+use Rattle.replay_table.specs.declared.table.Table.{Table as LentTable}
+use Rattle.replay_calls.specs.declared.refusal.Refusal.{Refusal}
+use Rattle.replay_calls.specs.declared.refusal.Refusal.TheVariants.{Log as LogRefusal}
+use Rattle.replay_calls.specs.RefusalView.{refusal_number}
+use Rattle.replay_scan.proofs.ScanLaws.{fault_some}
+use Rattle.replay.specs.Replay.{started, Went, bad, finished, replay_a, replay_of}
 use Rattle.replay_scan.specs.Walk.{Log, log_of, Walk, Walked}
 use Rattle.replay_table.specs.Group.{Right, RightAt, WrongAt, Stop, at_end, at_wrong, cells_in}
 use Rattle.replay_table.specs.Merge.{Sorted}
@@ -22,7 +29,7 @@ use Rattle.replay_group.specs.GroupView.{Sweeps}
 use Rattle.replay_scan.specs.Scan.{Scanned, Fine, Fines, of_other, is_of_timed, is_of_stack, is_of_ram}
 use Rattle.replay_scan.specs.Scan as S
 use Rattle.replay_group.specs.WriteView.{Fitting, Written}
-use Rattle.replay_group.specs.Decided.{Decided, passes, at_read, at_write, Decides, Left, Scans, Rebuilds}
+use Rattle.replay_group.specs.Decided.{Decided, passes, at_read, at_write, Decides, LeftIn, Scans, Rebuilds}
 use Rattle.replay_calls.specs.ReplayView.{replayed_by}
 use Rattle.replay.proofs.Verdicts.{All}
 use Rattle.replay.proofs.Verdicts as W
@@ -59,7 +66,7 @@ pub record Short (log : Log) (c : Cells) (rs : List Record) (end : ℕ) : Type 0
   pub right : Right 0 p c [] done
   pub wrong : WrongAt 0 p c done one
 
-module _ {log : Log} {to : ℕ} {c : Cells} {ks vs s v : List ℕ} {rs : List Record} {r : Sweep} (long : to ≤ length log.bytes) (walk : Walk log 0 to rs) (sweep : Sweeps log to c ks vs s v r) where
+module _ {log : Log} {to : ℕ} {c : Cells} {t : LentTable} {rs : List Record} {r : Sweep} (long : to ≤ length log.bytes) (walk : Walk log 0 to rs) (sweep : Sweeps log to c t r) where
   -- it came to its end
   pub whole : r.end ≡ to → Right 0 p c [] rs × (r.cells ≡ cells_in 0 p c [] rs)
   whole e =
@@ -88,14 +95,14 @@ module _ {log : Log} {to : ℕ} {c : Cells} {ks vs s v : List ℕ} {rs : List Re
       go done w (x ∷ xs) j (at_wrong i) t = absurd (not-both (right-at [] done x xs (rw j at h)) i)
 
 -- the records before its end
-pub walked_again : {log : Log} {to : ℕ} {c : Cells} {ks vs s v : List ℕ} {r : Sweep} → Walked log to → Sweeps log to c ks vs s v r → Walked log r.end
+pub walked_again : {log : Log} {to : ℕ} {c : Cells} {t : LentTable} {r : Sweep} → Walked log to → Sweeps log to c t r → Walked log r.end
 walked_again w h =
     let s = h.swept w.records w.walk in
     record { records = s.done; walk = s.walk; ends = omega (arith, h.within, w.ends) }
 
 -- ---- the decision
 
-module _ {log : Log} {to number room : ℕ} {c : Cells} {ks vs s v : List ℕ} {r : Sweep} (long : to ≤ length log.bytes) (sweep : Sweeps log to c ks vs s v r) (used : c.count ≤ length c.addresses) (left : room ≡ length c.addresses - c.count) where
+module _ {log : Log} {to number room : ℕ} {c : Cells} {t : LentTable} {r : Sweep} (long : to ≤ length log.bytes) (sweep : Sweeps log to c t r) (used : c.count ≤ length c.addresses) (left : room ≡ length c.addresses - c.count) where
   pub decide_full : r.end ≡ to → room < r.cells → Decides log to number c 44
   decide_full e h =
       record {
@@ -114,7 +121,7 @@ module _ {log : Log} {to number room : ℕ} {c : Cells} {ks vs s v : List ℕ} {
             passes k.0 (omega (arith, k.1));
       }
 
-  module _ {ks2 vs2 s2 v2 : List ℕ} {q : Sweep} (second : Sweeps log r.end c ks2 vs2 s2 v2 q) (n : r.end ≡ to → ⊥) where
+  module _ {u : LentTable} {q : Sweep} (second : Sweeps log r.end c u q) (n : r.end ≡ to → ⊥) where
     pub decide_room : room < q.cells → Decides log to number c 44
     decide_room h =
         record {
@@ -147,20 +154,17 @@ words_of (S.Fines.more f h) = W.more (one f) (words_of h)
     one is_of_stack = worded_stack
     one (is_of_ram a v d) = worded_ram a
 
-abbrev answer : ℕ → ℕ → ℕ → Answer
-answer n d k = record { number = n; depth = d; cells = k }
-
 -- place A refuses it
-pub call-refused : (v : ℕ) (log s : List ℕ) (c : Cells) (j n : ℕ) (r : Answer) → n ≡ replay_a v log c s → (n ≡ 0 → ⊥) → (r.number ≡ n) × (r.depth ≡ 0) × (r.cells ≡ 0) → replayed_by r s c ≡ replay_of v log c s j
+pub call-refused : (v : ℕ) (log s : List ℕ) (c : Cells) (j : ℕ) (e : Refusal) → (refusal_number e ≡ replay_a v log c s) × (replay_a v log c s ≡ 0 → ⊥) → replayed_by (Err e) s c ≡ replay_of v log c s j
 unfolding replay_of
-call-refused v log s c j n r e h (a, d, k) =
-    let z : eqb (replay_a v log c s) 0 ≡ false = ne_eqb (replay_a v log c s) 0 (λ (q : replay_a v log c s ≡ 0). h (e ∙ q)) in
-    rw (z, a, d, k, e)
+call-refused v log s c j e (h, k) =
+    let z : eqb (replay_a v log c s) 0 ≡ false = ne_eqb (replay_a v log c s) 0 k in
+    rw (z, h)
 
 -- and place A accepts it
-pub opens : (v : ℕ) (log s : List ℕ) (c : Cells) (fault : ℕ) → fault ≡ replay_a v log c s → fault ≡ 0 → Sorted c
-opens v log s c fault e z =
-    let k = (accepted v log c s (sym e ∙ z)).sound in
+pub opens : (v : ℕ) (log s : List ℕ) (c : Cells) → replay_a v log c s ≡ 0 → Sorted c
+opens v log s c z =
+    let k = (accepted v log c s z).sound in
     record { usable = record { ordered = record { within = k.used; ascending = k.ascending }; values = omega (arith, k.used, k.pair) }; pair = k.pair }
 
 pub scans : {log : Log} {s after : List ℕ} {j : ℕ} {r : Scan} {c : Cells} → Scanned log s j after r → Sorted c → Scans log r.end c
@@ -176,33 +180,31 @@ pub fitting : {log : Log} {to number : ℕ} {c : Cells} {r : ℕ} → Scans log 
 fitting s d e =
     record { records = s.records; walk = s.walk; ends = s.ends; fine = s.fine; sorted = s.sorted; room = decided-room (d.decided s.records s.walk) e }
 
-module _ (v : ℕ) (log s after : List ℕ) (c : Cells) (j fault n : ℕ) (scan : Scan) (fault_is : fault ≡ replay_a v log c s) (nothing : fault ≡ 0)
-    (scanned : Scanned (log_of v log) s j after scan) (decides : Decides (log_of v log) scan.end scan.number c n) where
+module _ (v : ℕ) (log s after : List ℕ) (c : Cells) (j n : ℕ) (scan : Scan) (nothing : replay_a v log c s ≡ 0)
+    (scanned : Scanned (log_of v log) s j after scan) (decides : Decides (log_of v log) scan.end (fault_or_0 scan.fault) c n) where
   open_cells : Sorted c
-  open_cells = opens v log s c fault fault_is nothing
+  open_cells = opens v log s c nothing
 
   whole-answer : (w : Went) → replay_from v j (started s c) log ≡ w → replay_of v log c s j ≡ finished w s c
   unfolding replay_of replay_from
-  whole-answer w e = let z : replay_a v log c s ≡ 0 = sym fault_is ∙ nothing in rw (z, e)
+  whole-answer w e = rw (nothing, e)
 
   -- it is refused, and the stack slice is cleared
-  pub call-wrong : (n ≡ 0 → ⊥) → (d : Cells) → d ≡ c → (zeros : List ℕ) (r : Answer) → length after ≡ length s → zeros ≡ replicate (length after) 0 →
-      (r.number ≡ n) × (r.depth ≡ 0) × (r.cells ≡ 0) → replayed_by r zeros d ≡ replay_of v log c s j
-  call-wrong h m q zeros r l z (a, d, k) =
-      let o : zeros ≡ s = z ∙ rw l (sym (accepted v log c s (sym fault_is ∙ nothing)).zeros) in
-      rw (q, whole-answer (bad n) (decided-bad scanned.walk (scanned.rests c) (scanned.ends c) (words_of scanned.fine) open_cells.pair open_cells.usable.ordered.within (decides.decided scanned.records scanned.walk) h), o, a, d, k)
+  pub call-wrong : (e : Fault) → n ≡ fault_number e → (d : Cells) → d ≡ c → (zeros : List ℕ) → length after ≡ length s → zeros ≡ replicate (length after) 0 →
+      replayed_by (Err (LogRefusal e)) zeros d ≡ replay_of v log c s j
+  call-wrong e m d q zeros l z =
+      let o : zeros ≡ s = z ∙ rw l (sym (accepted v log c s nothing).zeros) in
+      let h : n ≡ 0 → ⊥ = λ x. fault_some e (sym m ∙ x) in
+      rw (q, whole-answer (bad n) (decided-bad scanned.walk (scanned.rests c) (scanned.ends c) (words_of scanned.fine) open_cells.pair open_cells.usable.ordered.within (decides.decided scanned.records scanned.walk) h), o, m)
 
   -- it is rebuilt
-  pub call-right : n ≡ 0 → (k : ℕ) (a x : List ℕ) → Written (log_of v log) scan.end c (cells k a x) → replayed_by (answer 0 scan.depth k) after (cells k a x) ≡ replay_of v log c s j
-  call-right h k a x w =
+  pub call-right : n ≡ 0 → (d : Cells) → Written (log_of v log) scan.end c d → replayed_by (Ok scan.depth) after d ≡ replay_of v log c s j
+  call-right h d w =
       rw (whole-answer _ (decided_well scanned.walk (scanned.rests c) (scanned.ends c) (words_of scanned.fine) open_cells.pair open_cells.usable.ordered.within (decides.decided scanned.records scanned.walk) h), ← w.is scanned.records scanned.walk)
 
 -- ---- the table that is left
 
-pub left-none : (log : Log) (to : ℕ) (t : Cells) (s v : List ℕ) → Left log to false t s v
-left-none log to t s v = record { table = λ e. absurd (apart (sym e)) }
-
-pub left-whole : {log : Log} {to : ℕ} {c : Cells} {ks vs s v : List ℕ} {r : Sweep} → Sweeps log to c ks vs s v r → r.end ≡ to → Left log to (eqb r.groups 1) (cells r.n ks vs) s v
+pub left-whole : {log : Log} {to : ℕ} {c : Cells} {t : LentTable} {r : Sweep} → Sweeps log to c t r → r.end ≡ to → LeftIn log to (eqb r.groups 1) t
 left-whole {r = r} h e = record { table = λ q rs w. h.whole (eqb-true r.groups 1 q) e rs w }
 
 -- ---- decided and written

@@ -1,5 +1,6 @@
 -- Records none of which is of RAM: every read is right, no cell is taken, and none is written. Assumes nothing.
 use mathlib.Core.Path.{◌≡◌, refl, ap, ◌∙◌}
+use mathlib.Core.Bool.{Bool, false}
 use mathlib.Core.List.{List, [], ◌∷◌, ◌++◌}
 use Prim.Native.Nat.{ℕ}
 use native.Mathlib.Omega.{arith}
@@ -41,7 +42,7 @@ wrote-quiet c (stack t q d v ∷ rs) h = wrote-quiet c rs h
 wrote-quiet c (ram t a v d ∷ rs) h = absurd (omega arith)
 
 -- the scan's number stays, and the cells
-pub rebuilt-quiet : {log : Log} {to number some : ℕ} {c : Cells} → Scans log to c → Quiet log to some → some ≡ 0 → Rebuilds log to number c number c
+pub rebuilt-quiet : {log : Log} {to number : ℕ} {some : Bool} {c : Cells} → Scans log to c → Quiet log to some → some ≡ false → Rebuilds log to number c number c
 rebuilt-quiet {c = c} s q e =
     record {
       decides =

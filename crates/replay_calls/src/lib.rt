@@ -3,3 +3,4 @@
 
 pub mod call;
 pub mod place_a;
+pub mod refusal;

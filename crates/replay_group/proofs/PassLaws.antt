@@ -10,6 +10,9 @@ use lib.Dec.{ltb}
 use Rattle.machine.specs.Words.{p}
 use Rattle.machine.specs.Ram.{Cells, cells}
 use Rattle.machine.specs.Records.{Record}
+use Rattle.machine_log.specs.Kinds.{kind_number}
+use Rattle.replay_scan.specs.declared.record.Frame.{Frame}
+use Rattle.replay_scan.specs.declared.record.Head.TheVariants.{End, Broken, Record as RecordHead}
 use Rattle.replay_scan.specs.declared.record.Head.{Head}
 use Rattle.replay.specs.LastWrite.{wrote_of, had_of}
 use Rattle.replay_scan.specs.RecordView.{record_at, Headed}
@@ -20,7 +23,7 @@ use Rattle.replay_table.specs.Table.{seen, known, Paired, Table, Makes}
 use Rattle.replay_group.specs.GroupView.{Lent, Gathered, Gathers}
 use Rattle.replay_table.specs.TableView.{Touches}
 use Rattle.replay_scan.proofs.Walks.{walk-append}
-use Rattle.replay_scan.proofs.WalkLaws.{walk_end, Next, walk-next}
+use Rattle.replay_scan.proofs.WalkLaws.{walk_end, Next, walk-next, walk-not_end, walk-not_broken}
 use Rattle.replay_table.proofs.GroupLaws.{apart, right_snoc, right-less}
 use Rattle.replay_table.proofs.CellsLaws.{has-none}
 use Rattle.replay_table.proofs.TableLaws.{sorted_none, Roomy, table_made, turn_right, turn_wrong, turn_still, turn_table, settled-length, table-settled}
@@ -95,14 +98,14 @@ module _ {log : Log} {to : ℕ} {b : Bool} {lo hi : ℕ} {c : Cells} {rs : List 
         all = λ _. walk_end o.left h;
       }
 
-  module _ (h : Head) (g : Headed log at h) (m : to ≤ length log.bytes) (i : at < to) where
+  module _ (h : Frame) (g : Headed log at (RecordHead h)) (m : to ≤ length log.bytes) (i : at < to) where
     pub next : Next log at to o.rest h
     next = walk-next h g m i o.left
 
-    pub onward-next : {w : Bool} {u y : Cells} → Touches b lo hi c t l (record_at log at h.kind) w u y → w ≡ false → l.count < length l.addresses → t.count + l.count < length t.addresses →
+    pub onward-next : {w : Bool} {u y : Cells} → Touches b lo hi c t l (record_at log at (kind_number h.kind)) w u y → w ≡ false → l.count < length l.addresses → t.count + l.count < length t.addresses →
         Onward log to b lo hi c rs (at + h.size + 2) u y
     onward-next f z j k =
-        let r = record_at log at h.kind in
+        let r = record_at log at (kind_number h.kind) in
         let e : at + (h.size + 2) ≡ at + h.size + 2 = omega arith in
         record {
           done = o.done ++ (r ∷ []);
@@ -114,7 +117,7 @@ module _ {log : Log} {to : ℕ} {b : Bool} {lo hi : ℕ} {c : Cells} {rs : List 
           table = turn_table o.table f z j k;
         }
 
-    pub onward-wrong : {w : Bool} {u y : Cells} → Touches b lo hi c t l (record_at log at h.kind) w u y → w ≡ true → Gathered log b lo hi c rs at u y
+    pub onward-wrong : {w : Bool} {u y : Cells} → Touches b lo hi c t l (record_at log at (kind_number h.kind)) w u y → w ≡ true → Gathered log b lo hi c rs at u y
     onward-wrong f z =
         record {
           done = o.done;
@@ -179,27 +182,27 @@ going_made {n = n} {ks} {vs} {s = s} {v} w g k =
       room = r.room;
     }
 
-pub going_next : {log : Log} {to : ℕ} {b : Bool} {lo hi : ℕ} {c : Cells} {at n : ℕ} {ks vs : List ℕ} {m : ℕ} {s v : List ℕ} {w : Bool} {vs2 : List ℕ} {m2 : ℕ} {s2 v2 : List ℕ} →
-    (h : Head) → Headed log at h → Walked log to → at < to → (r : Readied log to b lo hi c at n ks vs m s v) →
-    Touches b lo hi c (cells n ks vs) (cells m s v) (record_at log at h.kind) w (cells n ks vs2) (cells m2 s2 v2) → w ≡ false →
-    length vs2 ≡ length vs → length s2 ≡ length s → length v2 ≡ length v → Going log to b lo hi c (at + h.size + 2) n ks vs2 m2 s2 v2
-going_next h g q i r t z e f k =
+pub going_next : {log : Log} {to : ℕ} {b : Bool} {lo hi : ℕ} {c : Cells} {at n : ℕ} {ks vs : List ℕ} {m : ℕ} {s v : List ℕ} {w : Bool} {n2 : ℕ} {ks2 vs2 : List ℕ} {m2 : ℕ} {s2 v2 : List ℕ} →
+    (h : Frame) → Headed log at (RecordHead h) → Walked log to → at < to → (r : Readied log to b lo hi c at n ks vs m s v) →
+    Touches b lo hi c (cells n ks vs) (cells m s v) (record_at log at (kind_number h.kind)) w (cells n2 ks2 vs2) (cells m2 s2 v2) → w ≡ false → n2 ≡ n →
+    length ks2 ≡ length ks → length vs2 ≡ length vs → length s2 ≡ length s → length v2 ≡ length v → Going log to b lo hi c (at + h.size + 2) n2 ks2 vs2 m2 s2 v2
+going_next h g q i r t z a d e f k =
     let x = r.going.on q.records q.walk in
     let y = next x h g q.ends i in
     record {
       within = omega (arith, y.fits);
       above = r.going.above;
       below = r.going.below;
-      lent = record { two = r.going.lent.two; pair = omega (arith, r.going.lent.pair); some = omega (arith, r.going.lent.some); late = omega (arith, r.going.lent.late) };
-      half = r.going.half;
+      lent = record { two = omega (arith, r.going.lent.two); pair = omega (arith, r.going.lent.pair); some = omega (arith, r.going.lent.some); late = omega (arith, r.going.lent.late) };
+      half = λ z. rw (a, d) (r.going.half z);
       on = λ rs w. onward-next (r.going.on rs w) h g q.ends i t z r.late r.room;
     }
 
 -- ---- the late cells merged
 
 pub gathers-settled : {log : Log} {to : ℕ} {b : Bool} {lo hi : ℕ} {c : Cells} {end : ℕ} {t : Cells} {m : ℕ} {s v : List ℕ} {d : Cells} →
-    Walked log to → Gathers log to b lo hi c end t (cells m s v) → (d.count ≡ t.count + m) × Merged t (cells m s v) d → Gathers log to b lo hi c end d (cells 0 s v)
-gathers-settled {lo = lo} {hi} {t = t} {m} {s} {v} {d} w g (e, k) =
+    Walked log to → Gathers log to b lo hi c end t (cells m s v) → d.count ≡ t.count + m → Merged t (cells m s v) d → Gathers log to b lo hi c end d (cells 0 s v)
+gathers-settled {lo = lo} {hi} {t = t} {m} {s} {v} {d} w g e k =
     let o = (g.gathered w.records w.walk).table.cells in
     let n : length d.addresses ≡ length t.addresses = rw k.is (settled-length o) in
     record {
@@ -222,3 +225,9 @@ gathers-settled {lo = lo} {hi} {t = t} {m} {s} {v} {d} w g (e, k) =
             all = x.all;
           };
     }
+
+-- where a walk has yet to pass a record, a head tells of one
+pub head_some : {s : Log} {i to : ℕ} {rs : List Record} (h : Head) → Headed s i h → i < to → Walk s i to rs → ((f : Frame) → h ≡ RecordHead f → ⊥) → ⊥
+head_some End g l w n = walk-not_end g l w
+head_some Broken g l w n = walk-not_broken g l w
+head_some (RecordHead f) g l w n = n f refl

@@ -1,13 +1,17 @@
 -- A record for a group, by the fields that are read. Assumes nothing.
-use mathlib.Core.Path.{◌≡◌, refl}
-use mathlib.Core.Bool.{Bool, true, false}
+use mathlib.Core.Path.{◌≡◌, refl, sym, ◌∙◌}
+use mathlib.Core.Bool.{Bool, true, false, not}
+use native.Mathlib.Omega.{arith}
 use mathlib.Core.List.{List}
 use Prim.Native.Nat.{ℕ, zero, suc}
-use borrow.Author.Tests.{ne_eqb}
+use borrow.Author.Tests.{ne_eqb, eqb-true, eqb-false}
 use lib.Dec.{eqb, ltb}
 use Rattle.choices.specs.Choice.{cond}
 use Rattle.machine.specs.Ram.{Cells, held}
 use Rattle.machine.specs.Records.{Record, ram, length_of, record_of}
+use Rattle.machine_log.specs.Kinds.{kind_number}
+use Rattle.machine_log.specs.declared.kinds.RecordKind.{RecordKind}
+use Rattle.machine_log.specs.declared.kinds.RecordKind.TheVariants.{Reset, Tip5, U32, Stack, Ram as RamKind, TimedTip5, TimedU32}
 use Rattle.replay_scan.specs.declared.record.Fields.{Fields}
 use Rattle.replay_scan.specs.RecordView.{record_at, OfRam}
 use Rattle.replay_scan.specs.Walk.{Log}
@@ -15,9 +19,18 @@ use Rattle.replay_table.specs.Group.{inside}
 use Rattle.replay_table.specs.Table.{seen, Puts}
 use Rattle.replay_table.specs.TableView.{Touches, by_other, by_timed, by_stack, by_outside, by_unchecked, by_right, by_wrong, by_write}
 
-pub ram_long : (v kind : ℕ) → kind ≡ 5 → length_of v kind ≡ 23
+pub ram_long : (v : ℕ) → length_of v 5 ≡ 23
 unfolding length_of
-ram_long v kind k = rw k
+ram_long v = refl
+
+pub other-kind : (k : RecordKind) → (k ≡ RamKind → ⊥) → kind_number k ≡ 5 → ⊥
+other-kind Reset h e = omega arith
+other-kind Tip5 h e = omega arith
+other-kind U32 h e = omega arith
+other-kind Stack h e = omega arith
+other-kind RamKind h e = h refl
+other-kind TimedTip5 h e = omega arith
+other-kind TimedU32 h e = omega arith
 
 module _ (b : Bool) (lo hi : ℕ) (c t l : Cells) where
   pub not-ram : (kind : ℕ) (s : List ℕ) → (kind ≡ 5 → ⊥) → Touches b lo hi c t l (record_of kind s) false t l
@@ -52,3 +65,11 @@ module _ (b : Bool) (lo hi : ℕ) (c t l : Cells) where
 
       pub ram-wrong : b ≡ true → inside lo hi f.place ≡ true → (f.value ≡ seen t l f.place (held c f.place) → ⊥) → Touches b lo hi c t l (record_at s at kind) true t l
       ram-wrong h e n = rw (ram-is, d) (by_wrong h e n)
+
+      -- a read that is looked at
+      pub ram-read : (word : ℕ) → b ≡ true → inside lo hi f.place ≡ true → word ≡ seen t l f.place (held c f.place) → Touches b lo hi c t l (record_at s at kind) (not (eqb f.value word)) t l
+      ram-read word h e w = go (eqb f.value word) refl
+        where
+          go : (x : Bool) → eqb f.value word ≡ x → Touches b lo hi c t l (record_at s at kind) (not x) t l
+          go true q = ram-right (eqb-true f.value word q ∙ w) e
+          go false q = ram-wrong h e (λ z. eqb-false f.value word q (z ∙ sym w))

@@ -8,6 +8,8 @@ use Rattle.replay_scan.specs.Scan.{Fines}
 use Rattle.replay_table.specs.Merge.{Sorted}
 use Rattle.replay_table.specs.Group.{Right, WrongAt, cells_in}
 use Rattle.replay_table.specs.Table.{Table}
+use Rattle.replay_table.specs.declared.table.Table.{Table as LentTable}
+use Rattle.replay_table.specs.LentView.{cells_at}
 use Rattle.replay_group.specs.WriteView.{Written}
 
 -- from the opening's cells c and the scan's number: that number where all reads are right and the cells suffice, else 43 or 44
@@ -23,6 +25,9 @@ pub record Decides (log : Log) (to number : ℕ) (c : Cells) (r : ℕ) : Type 0 
 -- the table that is left is that of all records, where it is said to be
 pub record Left (log : Log) (to : ℕ) (whole : Bool) (t : Cells) (s v : List ℕ) : Type 0 where
   pub table : whole ≡ true → (rs : List Record) → Walk log 0 to rs → Table 0 p rs t (cells 0 s v)
+
+abbrev pub LeftIn : Log → ℕ → Bool → LentTable → Type 0
+LeftIn log to whole t = Left log to whole (cells_at t.cells) t.late.addresses.now t.late.values.now
 
 -- the records up to `to`, whose addresses are words, and the opening's cells
 pub record Scans (log : Log) (to : ℕ) (c : Cells) : Type 0 where

@@ -1,11 +1,15 @@
 -- What the code gives for a group of addresses, and for all. c are the opening's cells, t those of the table, l its late ones.
-use Rattle.std.specs.Prelude.{ℕ, ◌+◌, ◌*◌, ◌/◌, ◌<◌, ◌≤◌, ◌≡◌, Bool, true, false, List, [], ◌++◌, length}
+use Rattle.std.specs.Prelude.{ℕ, ◌+◌, ◌*◌, ◌/◌, ◌<◌, ◌≤◌, ◌≡◌, Bool, true, false, List, [], ◌++◌, length, Option, Some, None}
 use Rattle.machine.specs.Words.{p}
 use Rattle.machine.specs.Ram.{Cells, cells}
 use Rattle.machine.specs.Records.{Record}
 use Rattle.replay_group.specs.declared.group.Sweep.{Sweep}
+use Rattle.std.specs.Borrow.{Bor}
+use Rattle.replay_table.specs.declared.cells.Cells.{Cells as LentCells}
+use Rattle.replay_table.specs.declared.table.Table.{Table as LentTable}
+use Rattle.replay_table.specs.LentView.{cells_at}
 use Rattle.replay_scan.specs.Walk.{Log, Walk}
-use Rattle.replay_table.specs.Group.{Right, Stop, Came, cells_in, distinct_in}
+use Rattle.replay_table.specs.Group.{Right, Stop, Came, no_cells, cells_in, distinct_in}
 use Rattle.replay_table.specs.Table.{Table}
 
 -- the slices of a table and of its late cells
@@ -14,6 +18,18 @@ pub record Lent (keys vals lkeys lvals : List ℕ) : Type 0 where
   pub pair : length keys ≡ length vals
   pub some : 0 < length lkeys
   pub late : length lkeys ≡ length lvals
+
+abbrev pub LentTo : LentTable → Type 0
+LentTo t = Lent t.cells.addresses.now t.cells.values.now t.late.addresses.now t.late.values.now
+
+-- reads are looked at where the opening's cells are given
+abbrev pub looks : Option (Bor LentCells) → Bool
+looks None = false
+looks (Some c) = true
+
+abbrev pub opening_of : Option (Bor LentCells) → Cells
+opening_of None = no_cells
+opening_of (Some c) = cells_at c.now
 
 -- of the records rs those before the place `end` made the table; where reads are looked at, they are right, and no more are
 pub record Gathered (log : Log) (checking : Bool) (lo hi : ℕ) (c : Cells) (rs : List Record) (end : ℕ) (t l : Cells) : Type 0 where
@@ -43,8 +59,8 @@ pub record Swept (log : Log) (to : ℕ) (c : Cells) (rs : List Record) (half : �
   pub takes : r.end ≡ to → r.cells ≡ cells_in 0 p c [] rs
   pub few : r.groups * half ≤ distinct_in 0 p rs + half
 
-pub record Sweeps (log : Log) (to : ℕ) (c : Cells) (keys vals lkeys lvals : List ℕ) (r : Sweep) : Type 0 where
+pub record Sweeps (log : Log) (to : ℕ) (c : Cells) (t : LentTable) (r : Sweep) : Type 0 where
   pub within : r.end ≤ to
-  pub swept : (rs : List Record) → Walk log 0 to rs → Swept log to c rs (length keys / 2) r
+  pub swept : (rs : List Record) → Walk log 0 to rs → Swept log to c rs (length t.cells.addresses.now / 2) r
   -- one group: the table is that of all records
-  pub whole : r.groups ≡ 1 → r.end ≡ to → (rs : List Record) → Walk log 0 to rs → Table 0 p rs (cells r.n keys vals) (cells 0 lkeys lvals)
+  pub whole : r.groups ≡ 1 → r.end ≡ to → (rs : List Record) → Walk log 0 to rs → Table 0 p rs (cells_at t.cells) (cells 0 t.late.addresses.now t.late.values.now)

@@ -1,95 +1,62 @@
 // A log's writes brought into RAM: the tables of the groups of addresses, one behind the other.
-ghost use Rattle.std.specs.Prelude.{◌/◌, length};
-ghost use Rattle.machine.specs.Ram.{cells as cells_of};
-ghost use Rattle.replay_scan.specs.Walk.{log_of};
-ghost use Rattle.replay_group.specs.GroupView.{Lent};
+ghost use Rattle.std.specs.Prelude.{◌≡◌, ◌/◌, length};
+ghost use Rattle.replay_scan.specs.RecordView.{log_at};
+ghost use Rattle.replay_table.specs.LentView.{cells_at, Kept, KeptTable};
+ghost use Rattle.replay_group.specs.GroupView.{LentTo};
 ghost use Rattle.replay_group.specs.WriteView.{Fits, Brings, Fitting, Written, Few};
-ghost use Rattle.replay_group.specs.Decided.{Left};
+ghost use Rattle.replay_group.specs.Decided.{LeftIn};
 
 use crate::group::group_from;
 use field::base::P;
-use replay_table::merge::{count_new, merge};
+use replay_scan::record::Log;
+use replay_table::cells::Cells;
+use replay_table::table::Table;
 
-// How many cells are used then, and how many groups there were.
-#[derive(Clone, Copy)]
-pub struct Wrote {
-    pub cells: usize,
-    pub groups: usize,
+// A table's cells.
+fn bring(cells: &mut Cells<'_>, from: &Cells<'_>)
+    requires { Fits (cells_at cells.old) (cells_at from.now) }
+    ensures brings { Brings (cells_at cells.old) (cells_at from.now) (cells_at cells.new) }
+    ensures kept { Kept cells.old cells.new }
+{
+    let total = cells.count + cells.lacked(from);
+    cells.merge(from, total);
 }
 
-// A table's cells; gives how many cells are used then.
-fn bring(
-    addresses: &mut [u64],
-    values: &mut [u64],
-    count: usize,
-    keys: &[u64],
-    vals: &[u64],
-    n: usize,
-) -> usize
-    requires { Fits (cells_of count addresses.old values.old) (cells_of n keys.now vals.now) }
-    ensures { Brings (cells_of count addresses.old values.old) (cells_of n keys.now vals.now) (cells_of result addresses.new values.new) }
+// The records before `to`, group by group; gives how many groups there were.
+fn write_groups(log: Log<'_>, to: usize, cells: &mut Cells<'_>, table: &mut Table<'_>) -> usize
+    requires { Fitting (log_at log) to (cells_at cells.old) × LentTo table.old }
+    ensures written { Written (log_at log.entry) to (cells_at cells.old) (cells_at cells.new) }
+    ensures few { Few (log_at log.entry) to (length table.old.cells.addresses.now / 2) result }
+    ensures kept { Kept cells.old cells.new }
+    ensures kept_table { KeptTable table.old table.new }
 {
-    let total = count + count_new(addresses, count, keys, n);
-    merge(addresses, values, count, keys, vals, n, total);
-    total
-}
-
-// The records before `to`, group by group.
-fn write_groups(
-    log: &[u8],
-    revision: u64,
-    to: usize,
-    addresses: &mut [u64],
-    values: &mut [u64],
-    count: usize,
-    keys: &mut [u64],
-    vals: &mut [u64],
-    lkeys: &mut [u64],
-    lvals: &mut [u64],
-) -> Wrote
-    requires { Fitting (log_of revision log.now) to (cells_of count addresses.old values.old) × Lent keys.old vals.old lkeys.old lvals.old }
-    ensures { Written (log_of revision log.now) to (cells_of count addresses.old values.old) (cells_of result.cells addresses.new values.new) × Few (log_of revision log.now) to (length keys.old / 2) result.groups }
-{
-    let mut used = count;
     let mut groups = 0;
-    let mut lo = 0;
-    while lo < P {
+    let mut low = 0;
+    while low < P {
         groups += 1;
-        let g = group_from(
-            log, revision, to, lo, false, addresses, values, used, keys, vals, lkeys, lvals,
-        );
-        used = bring(addresses, values, used, keys, vals, g.n);
-        lo = g.hi;
+        let group = group_from(log, to, low, None, table);
+        bring(cells, &table.cells);
+        low = group.high;
     }
-    Wrote {
-        cells: used,
-        groups: groups,
-    }
+    groups
 }
 
-// The same. Where one table of n cells had room for all, it is there already.
+// The same. Where one table had room for all, it is there already.
 pub fn write_back(
-    log: &[u8],
-    revision: u64,
+    log: Log<'_>,
     to: usize,
-    addresses: &mut [u64],
-    values: &mut [u64],
-    count: usize,
-    keys: &mut [u64],
-    vals: &mut [u64],
-    lkeys: &mut [u64],
-    lvals: &mut [u64],
+    cells: &mut Cells<'_>,
+    table: &mut Table<'_>,
     whole: bool,
-    n: usize,
-) -> usize
-    requires { Fitting (log_of revision log.now) to (cells_of count addresses.old values.old) × Lent keys.old vals.old lkeys.old lvals.old × Left (log_of revision log.now) to whole (cells_of n keys.old vals.old) lkeys.old lvals.old }
-    ensures { Written (log_of revision log.now) to (cells_of count addresses.old values.old) (cells_of result addresses.new values.new) }
+)
+    requires { Fitting (log_at log) to (cells_at cells.old) × LentTo table.old × LeftIn (log_at log) to whole table.old }
+    ensures written { Written (log_at log.entry) to (cells_at cells.old) (cells_at cells.new) }
+    ensures kept { Kept cells.old cells.new }
+    ensures kept_table { KeptTable table.old table.new }
 {
     if whole {
-        return bring(addresses, values, count, keys, vals, n);
+        bring(cells, &table.cells);
+        return;
     }
-    let w = write_groups(
-        log, revision, to, addresses, values, count, keys, vals, lkeys, lvals,
-    );
-    w.cells
+    let _groups = write_groups(log, to, cells, table);
 }

@@ -1,36 +1,13 @@
 // Each read of a log altered in turn, and the log replayed up to its end, so that each record is looked at.
 ghost use Rattle.std.specs.Prelude.{◌+◌, ◌≤◌, length};
+ghost use Rattle.replay_scan.specs.Walk.{log_of};
+ghost use Rattle.replay_scan.specs.RecordView.{Whole};
 
 use crate::memory_job::STEPS;
 use crate::print;
-use replay_scan::record::head_at;
+use machine_log::kinds::RecordKind;
+use replay_scan::record::{Frame, Head, Log};
 use std::io;
-
-// The eight bytes at a place.
-fn get(log: &[u8], at: usize) -> [u8; 8]
-    requires { at + 8 ≤ length log.now }
-{
-    [
-        log[at],
-        log[at + 1],
-        log[at + 2],
-        log[at + 3],
-        log[at + 4],
-        log[at + 5],
-        log[at + 6],
-        log[at + 7],
-    ]
-}
-
-fn put(log: &mut [u8], at: usize, bytes: &[u8; 8])
-    requires { at + 8 ≤ length log.old }
-{
-    let mut i = 0;
-    while i < 8 {
-        log[at + i] = bytes[i];
-        i += 1;
-    }
-}
 
 // Another word than these bytes: below 2^32, and its first byte differs.
 fn another(bytes: &[u8; 8]) -> [u8; 8] {
@@ -48,7 +25,7 @@ fn replay_with(
 ) -> io::Result<()>
     requires { at + 8 ≤ length log.old }
 {
-    put(log, at, bytes);
+    log[at..at + 8].copy_from_slice(bytes);
     print::number(rt, b"read at byte ", at as u64)?;
     print::text(rt, what)?;
     print::replay_to(rt, log, STEPS)
@@ -58,58 +35,39 @@ fn replay_with(
 fn alter_read(rt: &impl Print, log: &mut [u8], at: usize) -> io::Result<()>
     requires { at + 8 ≤ length log.old }
 {
-    let old = get(log, at);
+    let mut old = [0u8; 8];
+    old.copy_from_slice(&log[at..at + 8]);
     let word = another(&old);
     let none = [255u8; 8];
     replay_with(rt, log, at, b" another word", &word)?;
     replay_with(rt, log, at, b" no word", &none)?;
-    put(log, at, &old);
+    log[at..at + 8].copy_from_slice(&old);
     Ok(())
 }
 
-// How far into its record the direction stands: kind 4 is the op stack's, 5 RAM's.
-fn direction_of(kind: u64) -> usize
-    ensures { result ≤ 24 }
+// The record at a place, if it is a read: of these two kinds one stands where the direction is 0.
+fn alter_record(rt: &impl Print, log: &mut [u8], at: usize, frame: Frame) -> io::Result<()>
+    requires { Whole (log_of 1 log.old) at frame }
 {
-    if kind == 4 { 16 } else { 24 }
-}
-
-// And the value.
-fn value_of(kind: u64) -> usize
-    ensures { result ≤ 17 }
-{
-    if kind == 4 { 17 } else { 16 }
-}
-
-// The record at a place, if it is a read. Only these two kinds are of this size.
-fn alter_record(
-    rt: &impl Print,
-    log: &mut [u8],
-    at: usize,
-    kind: u64,
-    size: usize,
-) -> io::Result<()>
-    requires { at + size + 2 ≤ length log.old }
-{
-    if size != 23 {
-        return Ok(());
+    match frame.kind {
+        RecordKind::Stack if log[at + 16] == 0 => alter_read(rt, log, at + 17),
+        RecordKind::Ram if log[at + 24] == 0 => alter_read(rt, log, at + 16),
+        _ => Ok(()),
     }
-    let direction = at + direction_of(kind);
-    if log[direction] == 0 {
-        alter_read(rt, log, at + value_of(kind))?;
-    }
-    Ok(())
 }
 
 pub fn alter_reads(rt: &impl Print, log: &mut [u8]) -> io::Result<()> {
     let mut at = 0;
     while at < log.len() {
-        let h = head_at(log, 1, at);
-        if h.state != 2 {
+        let lent = Log {
+            bytes: log,
+            revision: 1,
+        };
+        let Head::Record(frame) = lent.head_at(at) else {
             return Ok(());
-        }
-        alter_record(rt, log, at, h.kind, h.size)?;
-        at = at + h.size + 2;
+        };
+        alter_record(rt, log, at, frame)?;
+        at += frame.size + 2;
     }
     Ok(())
 }

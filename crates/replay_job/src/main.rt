@@ -6,7 +6,6 @@ mod alter;
 mod memory_job;
 mod print;
 
-use choices::numbers::least;
 use machine_open::open::open;
 use machine_vm::trace::trace_execution;
 use std::io;
@@ -22,7 +21,7 @@ fn replay_clocks(rt: &impl Print, log: &[u8]) -> io::Result<()> {
 
 // The log is the first `bytes` of what is lent.
 fn replay_all(rt: &impl Print, lent: &mut [u8], bytes: usize) -> io::Result<()> {
-    let most = least(bytes, lent.len());
+    let most = bytes.min(lent.len());
     replay_clocks(rt, &lent[..most])?;
     alter::alter_reads(rt, &mut lent[..most])
 }

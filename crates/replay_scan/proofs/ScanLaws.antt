@@ -8,20 +8,29 @@ use borrow.Author.Tests.{eq-eqb, ne_eqb, le-ltb, ltb-true, ltb-false, leb-true, 
 use lib.ListN.{length, drop, get_or, set, length-set}
 use lib.Dec.{eqb, ltb, leb}
 use Rattle.choices.specs.Choice.{cond, first_of, above_of, differ_of}
+use mathlib.Core.Logic.{◌⊎◌, ⊎_elim}
+use Rattle.machine_log.specs.declared.kinds.RecordKind.{RecordKind}
+use Rattle.machine_log.specs.declared.kinds.RecordKind.TheVariants.{Reset, Tip5, U32, TimedTip5, TimedU32}
+use Rattle.machine_log.specs.Kinds.{kind_number}
 use Rattle.machine.specs.Words.{p}
 use Rattle.machine.specs.Ram.{Cells, cells}
 use Rattle.machine.specs.Bytes.{bytes_of}
 use Rattle.machine.specs.Records.{Record, other, stack, ram, length_of, record_of}
 use Rattle.choices.proofs.Choice.{first_zero, first-left, first-nil, above-is, above-not, above-nil, differ_is, differ_not}
 use Rattle.machine.proofs.Bytes.{is_word_of}
+use Rattle.std.specs.Prelude.{Option, Some, None, Result, Ok, Err}
 use Rattle.replay_scan.specs.declared.record.Fields.{Fields}
-use Rattle.replay_scan.specs.declared.scan.Counts.{Counts}
+use Rattle.replay_scan.specs.declared.fault.Fault.{Fault}
+use Rattle.replay_scan.specs.declared.fault.Fault.TheVariants.{Malformed, ClockFalls, WrongPlace, WrongRead, NoRoom, TooMany}
+use Rattle.replay_scan.specs.declared.counts.Counts.{Counts}
 use Rattle.replay_scan.specs.declared.scan.Turn.{Turn}
-use Rattle.replay.specs.Replay.{Tally, tally, tally_at, with_stack, with_ram, Built, built, word40, fields40, clock41, most_records, stack45, ram45, stack_fault, stack_turn, judged}
+use Rattle.replay.specs.Replay.{Tally, tally, tally_at, with_stack, with_ram, Built, built, word40, fields40, clock41, most_records, stack45, ram45, stack_fault, stack_turn, wrong, goes, judged}
 use Rattle.replay_scan.specs.RecordView.{record_at, OfStack, OfRam, OfTimed}
 use Rattle.replay_scan.specs.Walk.{Log}
 use Rattle.replay_scan.specs.Scan.{write45, rest_of, over45, Fine, of_other, is_of_timed, is_of_stack, is_of_ram, ram_in}
-use Rattle.replay_scan.specs.ScanView.{Places, tally_of, Few, StackFault, Movable, Moved, verdict_of, Off, OwnTurn, Turns, Stays, Times}
+use Rattle.replay_scan.specs.FaultView.{fault_number}
+use Rattle.replay_scan.specs.CountsView.{tally_of, number45}
+use Rattle.replay_scan.specs.ScanView.{Places, StackFault, Movable, Moved, OwnFine, OwnEnds, Behind, Goes, Ended, Turns, Stays, Times}
 use Rattle.replay.proofs.Verdicts.{judged-stops, judged-goes, judged-wrong, word_nil}
 
 -- ---- faults
@@ -80,14 +89,11 @@ module _ (s : List ℕ) (depth : ℕ) (f : Fields) (over : ℕ) where
       go l c zero h q = absurd (h refl)
       go l c (suc d) h q = rw q
 
+  write-room : (n : ℕ) → (f.dir ≡ 0 → ⊥) → f.place ≡ depth → over ≡ 0 → n ≡ above_of (depth - 15) (length s) 44 → StackFault s depth f over n
+  write-room n h k z e = write_fault n h (e ∙ sym (first_zero _ _ (differ_not f.place depth 42 k) ∙ first_zero over _ z))
+
   pub write-elsewhere : (f.dir ≡ 0 → ⊥) → (f.place ≡ depth → ⊥) → StackFault s depth f over 42
   write-elsewhere h k = write_fault 42 h (sym (first-is _ _ 42 (λ z. omega arith) (differ_is f.place depth 42 k)))
-
-  pub write_over : (f.dir ≡ 0 → ⊥) → f.place ≡ depth → (over ≡ 0 → ⊥) → StackFault s depth f over over
-  write_over h k z = write_fault over h (sym (first_zero _ _ (differ_not f.place depth 42 k) ∙ first-left over _ z))
-
-  pub write-room : (n : ℕ) → (f.dir ≡ 0 → ⊥) → f.place ≡ depth → over ≡ 0 → n ≡ above_of (depth - 15) (length s) 44 → StackFault s depth f over n
-  write-room n h k z e = write_fault n h (e ∙ sym (first_zero _ _ (differ_not f.place depth 42 k) ∙ first_zero over _ z))
 
   pub shallow_fault : f.dir ≡ 0 → depth < 17 → StackFault s depth f over 42
   unfolding stack_fault
@@ -102,8 +108,13 @@ module _ (s : List ℕ) (depth : ℕ) (f : Fields) (over : ℕ) where
   pub read-elsewhere : f.dir ≡ 0 → 17 ≤ depth → (f.place ≡ depth - 1 → ⊥) → StackFault s depth f over 42
   read-elsewhere h l k = read_fault 42 h l (sym (first-is _ _ 42 (λ z. omega arith) (differ_is f.place (depth - 1) 42 k)))
 
-  pub read_here : (n : ℕ) → f.dir ≡ 0 → 17 ≤ depth → f.place ≡ depth - 1 → n ≡ first_of (differ_of f.value (get_or s (depth - 17) 0) 43) over → StackFault s depth f over n
-  read_here n h l k e = read_fault n h l (e ∙ sym (first_zero _ _ (differ_not f.place (depth - 1) 42 k)))
+  pub read-wrong : f.dir ≡ 0 → 17 ≤ depth → f.place ≡ depth - 1 → (f.value ≡ get_or s (depth - 17) 0 → ⊥) → StackFault s depth f over 43
+  read-wrong h l k m =
+      read_fault 43 h l (sym (first_zero _ _ (differ_not f.place (depth - 1) 42 k) ∙ first-is _ _ 43 (λ z. omega arith) (differ_is f.value (get_or s (depth - 17) 0) 43 m)))
+
+  read-right : (n : ℕ) → f.dir ≡ 0 → 17 ≤ depth → f.place ≡ depth - 1 → f.value ≡ get_or s (depth - 17) 0 → n ≡ over → StackFault s depth f over n
+  read-right n h l k m e =
+      read_fault n h l (e ∙ sym (first_zero _ _ (differ_not f.place (depth - 1) 42 k) ∙ first_zero _ _ (differ_not f.value (get_or s (depth - 17) 0) 43 m)))
 
   -- without a fault there is a word to drop, or room for one
   pub movable : (l : Tally) → over ≡ stack45 l f.clock f.dir → Places s depth → StackFault s depth f over 0 → Movable s depth f
@@ -121,6 +132,22 @@ module _ (s : List ℕ) (depth : ℕ) (f : Fields) (over : ℕ) where
       go c (suc d) l k =
           let m : depth - 15 ≤ length s = above-nil (depth - 15) (length s) 44 (omega arith) (first-nil _ _ (first-nil _ _ (sym k)).1).1 in
           omega (arith, h.low)
+
+module _ (s : List ℕ) (depth : ℕ) (f : Fields) where
+  pub write-full : (f.dir ≡ 0 → ⊥) → f.place ≡ depth → StackFault s depth f 45 45
+  write-full h k = write_fault s depth f 45 45 h (sym (first_zero _ _ (differ_not f.place depth 42 k) ∙ first-left 45 _ (λ z. omega arith)))
+
+  pub write-no_room : (f.dir ≡ 0 → ⊥) → f.place ≡ depth → length s < depth - 15 → StackFault s depth f 0 44
+  write-no_room h k l = write-room s depth f 0 44 h k refl (sym (above-is (depth - 15) (length s) 44 l))
+
+  pub write-fits : (f.dir ≡ 0 → ⊥) → f.place ≡ depth → depth - 15 ≤ length s → StackFault s depth f 0 0
+  write-fits h k l = write-room s depth f 0 0 h k refl (sym (above-not (depth - 15) (length s) 44 l))
+
+  pub read-full : f.dir ≡ 0 → 17 ≤ depth → f.place ≡ depth - 1 → f.value ≡ get_or s (depth - 17) 0 → StackFault s depth f 45 45
+  read-full h l k m = read-right s depth f 45 45 h l k m refl
+
+  pub read-fits : f.dir ≡ 0 → 17 ≤ depth → f.place ≡ depth - 1 → f.value ≡ get_or s (depth - 17) 0 → StackFault s depth f 0 0
+  read-fits h l k m = read-right s depth f 0 0 h l k m refl
 
 -- a record without a fault is not one too many
 fault_not_over : (b : Built) (t q d v : ℕ) → stack_fault b t q d v ≡ 0 → stack45 b.counts t d ≡ 0
@@ -153,143 +180,89 @@ module _ (s : List ℕ) (depth : ℕ) (f : Fields) where
       go t c zero h = absurd (h refl)
       go t c (suc d) h = refl
 
--- ---- a record's verdict, by the answer
-
-module _ (j t n : ℕ) (x : Built) (s : List ℕ) (c : Cells) (r : Turn) where
-  late_is : j ≤ t → r.going ≡ false → r.number ≡ 0 → judged j t n x ≡ verdict_of r s c
-  unfolding verdict_of
-  late_is h g m = judged-stops j t n x h ∙ rw (g, m)
-
-  wrong-is : t < j → (n ≡ 0 → ⊥) → r.going ≡ false → r.number ≡ n → judged j t n x ≡ verdict_of r s c
-  unfolding verdict_of
-  wrong-is h k g m = judged-wrong j t n x h k ∙ rw (g, m, ne_eqb n 0 k)
-
-  goes-is : t < j → n ≡ 0 → r.going ≡ true → x ≡ built (tally_of r.counts) r.depth s c → judged j t n x ≡ verdict_of r s c
-  unfolding verdict_of
-  goes-is h k g e = judged-goes j t n x h k ∙ rw (g, e)
-
 -- ---- a record's clock and fields
 
-not-both : {b : Bool} → b ≡ false → b ≡ true → ⊥
-not-both e f = let z : ◌≡◌ {A = ℕ} 0 1 = cc in omega arith
+pub fault_some : (e : Fault) → fault_number e ≡ 0 → ⊥
+fault_some Malformed z = omega arith
+fault_some ClockFalls z = omega arith
+fault_some WrongPlace z = omega arith
+fault_some WrongRead z = omega arith
+fault_some NoRoom z = omega arith
+fault_some TooMany z = omega arith
 
-module _ (j : ℕ) (n : Counts) (depth : ℕ) (f : Fields) {r : Turn} where
-  pub own-late : j ≤ f.clock → Off 0 depth r → OwnTurn j n depth f r
-  own-late l o =
-      record {
-        early = λ e. absurd (not-both o.going e);
-        fields = λ e. absurd (not-both o.going e);
-        clock = λ e. absurd (not-both o.going e);
-        ends = λ _ rest x s c. late_is j _ _ x s c r l o.going o.number;
-        same = o.depth;
-      }
+-- a record whose number is a fault's
+wrong-is : (j t n : ℕ) (x : Built) (e : Fault) → t < j → n ≡ fault_number e → judged j t n x ≡ wrong (fault_number e)
+wrong-is j t n x e l h = judged-wrong j t n x l (λ z. fault_some e (sym h ∙ z)) ∙ ap wrong h
 
-  own-wrong : (k : ℕ) → f.clock < j → (k ≡ 0 → ⊥) → ((rest : ℕ) → first_of (fields40 f.dir f.place f.value) (first_of (clock41 (tally_of n) f.clock) rest) ≡ k) → Off k depth r → OwnTurn j n depth f r
-  own-wrong k l z e o =
-      record {
-        early = λ e. absurd (not-both o.going e);
-        fields = λ e. absurd (not-both o.going e);
-        clock = λ e. absurd (not-both o.going e);
-        ends = λ _ rest x s c. wrong-is j _ _ x s c r l (λ q. z (sym (e rest) ∙ q)) o.going (o.number ∙ sym (e rest));
-        same = o.depth;
-      }
+module _ (j : ℕ) (n : Counts) (f : Fields) where
+  pub own-late : j ≤ f.clock → OwnEnds j n f None
+  own-late l = record { ends = λ rest x. judged-stops j _ _ x l }
+
+  own-wrong : (e : Fault) → f.clock < j → ((rest : ℕ) → first_of (fields40 f.dir f.place f.value) (first_of (clock41 (tally_of n) f.clock) rest) ≡ fault_number e) → OwnEnds j n f (Some e)
+  own-wrong e l h = record { ends = λ rest x. wrong-is j _ _ x e l (h rest) }
 
   module _ (fit : Bool) (fit_is : fields40 f.dir f.place f.value ≡ cond fit 0 40) (l : f.clock < j) where
-    pub own_40 : fit ≡ false → Off 40 depth r → OwnTurn j n depth f r
-    own_40 e o = own-wrong 40 l (λ z. omega arith) (λ rest. first-is _ _ 40 (λ z. omega arith) (rw e at fit_is)) o
+    pub own_40 : fit ≡ false → OwnEnds j n f (Some Malformed)
+    own_40 e = own-wrong Malformed l (λ rest. first-is _ _ 40 (λ z. omega arith) (rw e at fit_is))
 
-    pub own_41 : fit ≡ true → f.clock < n.last → Off 41 depth r → OwnTurn j n depth f r
+    pub own_41 : fit ≡ true → f.clock < n.last → OwnEnds j n f (Some ClockFalls)
     unfolding clock41
-    own_41 e k o = own-wrong 41 l (λ z. omega arith) (λ rest. first_zero _ _ (rw e at fit_is) ∙ first-is _ _ 41 (λ z. omega arith) (above-is n.last f.clock 41 k)) o
+    own_41 e k = own-wrong ClockFalls l (λ rest. first_zero _ _ (rw e at fit_is) ∙ first-is _ _ 41 (λ z. omega arith) (above-is n.last f.clock 41 k))
 
-    pub own-goes : fit ≡ true → n.last ≤ f.clock → r.going ≡ true → r.depth ≡ depth → OwnTurn j n depth f r
+    pub own-goes : fit ≡ true → n.last ≤ f.clock → OwnFine j n f
     unfolding clock41
-    own-goes e k g d =
-        record {
-          early = λ _. l;
-          fields = λ _. rw e at fit_is;
-          clock = λ _. above-not n.last f.clock 41 k;
-          ends = λ z. absurd (not-both z g);
-          same = d;
-        }
+    own-goes e k = record { early = l; fields = rw e at fit_is; clock = above-not n.last f.clock 41 k }
 
 -- ---- a record of the op stack
 
-module _ (j : ℕ) (n : Counts) (depth : ℕ) (s : List ℕ) (f : Fields) (h : Places s depth) (own : Turn) (own_is : OwnTurn j n depth f own) where
+module _ (j : ℕ) (n : Counts) (depth : ℕ) (s : List ℕ) (f : Fields) where
   abbrev of_f : Record
   of_f = stack f.clock f.place f.dir f.value
 
-  pub stack_off : own.going ≡ false → Turns j n depth s of_f s own
-  unfolding rest_of ram_in
-  stack_off g =
-      record {
-        is = λ c. own_is.ends g _ _ s c;
-        over = λ e. absurd (not-both g e);
-        few = λ e. absurd (not-both g e);
-        fine = λ e. is_of_stack;
-        quiet = λ e q. refl;
-        kept = λ e. refl;
-        places = rw own_is.same h;
-        room = refl;
-      }
+  pub stack_off : {e : Option Fault} → OwnEnds j n f e → Ended j n depth s of_f s e
+  unfolding rest_of
+  stack_off o = record { is = λ c. o.ends _ _; kept = refl }
 
   -- what is counted at the record's clock is m
-  module _ (m : Counts) (m-is : (tally_of m ≡ tally_at (tally_of n) f.clock) × Few m) (over k : ℕ) (going : own.going ≡ true)
-      (over-is : over ≡ first_of (cond (eqb m.stacks 0) 0 (differ_of f.dir m.way 45)) (above_of (m.stacks + 1) most_records 45))
-      (here-is : StackFault s depth f over k) where
-    is_45 : over ≡ stack45 (tally_of n) f.clock f.dir
+  module _ (own : OwnFine j n f) (h : Places s depth) (m : Counts) (m-is : tally_of m ≡ tally_at (tally_of n) f.clock) (over : Bool)
+      (over-is : number45 over ≡ first_of (cond (eqb m.stacks 0) 0 (differ_of f.dir m.way 45)) (above_of (m.stacks + 1) most_records 45)) where
+    is_45 : number45 over ≡ stack45 (tally_of n) f.clock f.dir
     unfolding stack45
-    is_45 = over-is ∙ ap (λ (z : Tally). first_of (cond (eqb z.stacks 0) 0 (differ_of f.dir z.way 45)) (above_of (z.stacks + 1) most_records 45)) m-is.0
+    is_45 = over-is ∙ ap (λ (z : Tally). first_of (cond (eqb z.stacks 0) 0 (differ_of f.dir z.way 45)) (above_of (z.stacks + 1) most_records 45)) m-is
 
-    fault_of_lem : (c : Cells) → k ≡ first_of (fields40 f.dir f.place f.value) (first_of (clock41 (tally_of n) f.clock) (stack_fault (built (tally_of n) depth s c) f.clock f.place f.dir f.value))
-    fault_of_lem c = here-is.is (tally_of n) c is_45 ∙ sym (first_zero _ _ (own_is.fields going) ∙ first_zero _ _ (own_is.clock going))
+    fault_of_lem : (k : ℕ) → StackFault s depth f (number45 over) k → (c : Cells) →
+        k ≡ first_of (fields40 f.dir f.place f.value) (first_of (clock41 (tally_of n) f.clock) (stack_fault (built (tally_of n) depth s c) f.clock f.place f.dir f.value))
+    fault_of_lem k here c = here.is (tally_of n) c is_45 ∙ sym (first_zero _ _ own.fields ∙ first_zero _ _ own.clock)
 
-    pub stack-wrong : {r : Turn} → (k ≡ 0 → ⊥) → Off k depth r → Turns j n depth s of_f s r
-    unfolding rest_of ram_in
-    stack-wrong z o =
-        record {
-          is = λ c. wrong-is j _ _ _ s c _ (own_is.early going) (λ e. z (fault_of_lem c ∙ e)) o.going (o.number ∙ fault_of_lem c);
-          over = λ e. absurd (not-both o.going e);
-          few = λ e. absurd (not-both o.going e);
-          fine = λ e. is_of_stack;
-          quiet = λ e q. refl;
-          kept = λ e. refl;
-          places = rw o.depth h;
-          room = refl;
-        }
+    pub stack-wrong : (e : Fault) → StackFault s depth f (number45 over) (fault_number e) → Ended j n depth s of_f s (Some e)
+    unfolding rest_of
+    stack-wrong e here = record { is = λ c. wrong-is j _ _ _ e own.early (sym (fault_of_lem _ here c)); kept = refl }
 
-    nothing_here : k ≡ 0 → StackFault s depth f over 0
-    nothing_here e = record { is = λ l c q. sym e ∙ here-is.is l c q }
+    module _ (here : StackFault s depth f (number45 over) 0) where
+      pub stack-movable : Movable s depth f
+      stack-movable = movable s depth f (number45 over) (tally_of n) is_45 h here
 
-    pub stack-movable : k ≡ 0 → Movable s depth f
-    stack-movable e = movable s depth f over (tally_of n) is_45 h (nothing_here e)
+      not_over : first_of (cond (eqb m.stacks 0) 0 (differ_of f.dir m.way 45)) (above_of (m.stacks + 1) most_records 45) ≡ 0
+      not_over = sym over-is ∙ is_45 ∙ fault_not_over (built (tally_of n) depth s (cells 0 [] [])) f.clock f.place f.dir f.value (sym (here.is (tally_of n) (cells 0 [] []) is_45))
 
-    -- one stack record more
-    abbrev behind : Counts
-    behind = record { last = f.clock; way = f.dir; stacks = m.stacks + 1; rams = m.rams }
+      -- one stack record more
+      pub stack-few : m.stacks + 1 ≤ most_records
+      stack-few = above-nil (m.stacks + 1) most_records 45 (omega arith) (first-nil _ _ not_over).1
 
-    behind-is : with_stack (tally_of n) f.clock f.dir ≡ tally_of behind
-    unfolding with_stack
-    behind-is = ap (λ (z : Tally). tally f.clock f.dir (z.stacks + 1) z.rams) (sym m-is.0)
-
-    behind-few : k ≡ 0 → Few behind
-    behind-few e =
-        let z : over ≡ 0 = is_45 ∙ fault_not_over (built (tally_of n) depth s (cells 0 [] [])) f.clock f.place f.dir f.value (sym ((nothing_here e).is (tally_of n) (cells 0 [] []) is_45)) in
-        record { stacks = above-nil (m.stacks + 1) most_records 45 (omega arith) (first-nil _ _ (sym over-is ∙ z)).1; rams = m-is.1.rams }
-
-    pub stack-goes : (after : List ℕ) (d : ℕ) → k ≡ 0 → Moved s depth f after d → Turns j n depth s of_f after (record { going = true; number = 0; counts = behind; depth = d; ram = 0 })
-    unfolding rest_of ram_in over45
-    stack-goes after d e o =
-        record {
-          is = λ c. goes-is j _ _ _ after c _ (own_is.early going) (sym (fault_of_lem c) ∙ e) refl (o.is (tally_of n) c ∙ ap (λ (z : Tally). built z d after c) behind-is);
-          over = λ _. refl;
-          few = λ _ _. behind-few e;
-          fine = λ e. is_of_stack;
-          quiet = λ e q. refl;
-          kept = λ e. absurd (let z : ◌≡◌ {A = ℕ} 0 1 = cc in omega arith);
-          places = o.places;
-          room = o.room;
-        }
+      pub stack-goes : {after : List ℕ} {d : ℕ} {k : Counts} → tally_of k ≡ tally f.clock f.dir (m.stacks + 1) m.rams → Moved s depth f after d →
+          Goes j n depth s of_f after (record { counts = Some k; depth = d; ram = false })
+      unfolding rest_of ram_in over45 with_stack
+      stack-goes {after} {d} {k} k-is o =
+          let e : with_stack (tally_of n) f.clock f.dir ≡ tally_of k = ap (λ (z : Tally). tally f.clock f.dir (z.stacks + 1) z.rams) (sym m-is) ∙ sym k-is in
+          record {
+            tally = tally_of k;
+            is = λ c. judged-goes j _ _ _ own.early (sym (fault_of_lem 0 here c)) ∙ ap goes (o.is (tally_of n) c ∙ ap (λ (z : Tally). built z d after c) e);
+            behind = (refl, refl);
+            fine = is_of_stack;
+            quiet = λ _. refl;
+            places = o.places;
+            room = o.room;
+          }
 
 -- ---- a record of RAM
 
@@ -311,153 +284,165 @@ unfolding write45 over45
 over_45 l t a v zero over e f = sym e
 over_45 l t a v (suc d) over e f = sym (e ∙ f)
 
-module _ (j : ℕ) (n : Counts) (depth : ℕ) (f : Fields) (own : Turn) (own_is : OwnTurn j n depth f own) where
+not-both : {b : Bool} → b ≡ false → b ≡ true → ⊥
+not-both e f = let z : ◌≡◌ {A = ℕ} 0 1 = cc in omega arith
+
+either-nil : (b : Bool) → cond {A = ℕ} b 0 0 ≡ 0
+either-nil true = refl
+either-nil false = refl
+
+module _ (j : ℕ) (n : Counts) (depth : ℕ) (f : Fields) where
   abbrev of_ram_f : Record
   of_ram_f = ram f.clock f.place f.value f.dir
 
-  pub ram-off : own.going ≡ false → Stays j n depth of_ram_f own
+  pub ram-off : {e : Option Fault} → OwnEnds j n f e → Stays j n depth of_ram_f (Err e)
   unfolding rest_of
-  ram-off g =
-      record {
-        is = λ s c. own_is.ends g _ _ s c;
-        over = λ e. absurd (not-both g e);
-        few = λ e. absurd (not-both g e);
-        fine = λ e. absurd (not-both g e);
-        quiet = λ e. absurd (not-both g e);
-        same = own_is.same;
-      }
+  ram-off o = λ s h. record { is = λ c. o.ends _ _; kept = refl }
 
-  module _ (m : Counts) (m-is : (tally_of m ≡ tally_at (tally_of n) f.clock) × Few m) (over k : ℕ) (going : own.going ≡ true)
-      (over-is : over ≡ above_of (m.rams + 1) most_records 45) (k-is : k ≡ cond (eqb f.dir 0) 0 over) where
-    is-ram_45 : over ≡ ram45 (tally_of n) f.clock
+  module _ (own : OwnFine j n f) (m : Counts) (m-is : tally_of m ≡ tally_at (tally_of n) f.clock) (over : Bool) (over-is : number45 over ≡ above_of (m.rams + 1) most_records 45) where
+    is-ram_45 : number45 over ≡ ram45 (tally_of n) f.clock
     unfolding ram45
-    is-ram_45 = over-is ∙ ap (λ (z : Tally). above_of (z.rams + 1) most_records 45) m-is.0
+    is-ram_45 = over-is ∙ ap (λ (z : Tally). above_of (z.rams + 1) most_records 45) m-is
 
-    is-write_45 : k ≡ write45 (tally_of n) f.clock f.dir
-    is-write_45 = k-is ∙ write_45 (tally_of n) f.clock f.dir over is-ram_45
+    ram_fault_of : (k : ℕ) → k ≡ write45 (tally_of n) f.clock f.dir → k ≡ first_of (fields40 f.dir f.place f.value) (first_of (clock41 (tally_of n) f.clock) (write45 (tally_of n) f.clock f.dir))
+    ram_fault_of k e = e ∙ sym (first_zero _ _ own.fields ∙ first_zero _ _ own.clock)
 
-    ram_fault_of : k ≡ first_of (fields40 f.dir f.place f.value) (first_of (clock41 (tally_of n) f.clock) (write45 (tally_of n) f.clock f.dir))
-    ram_fault_of = is-write_45 ∙ sym (first_zero _ _ (own_is.fields going) ∙ first_zero _ _ (own_is.clock going))
-
-    pub ram-wrong : {r : Turn} → (k ≡ 0 → ⊥) → Off k depth r → Stays j n depth of_ram_f r
+    -- a write too many
+    pub ram-wrong : over ≡ true → (f.dir ≡ 0 → ⊥) → Stays j n depth of_ram_f (Err (Some TooMany))
     unfolding rest_of
-    ram-wrong z o =
-        record {
-          is = λ s c. wrong-is j _ _ _ s c _ (own_is.early going) (λ e. z (ram_fault_of ∙ e)) o.going (o.number ∙ ram_fault_of);
-          over = λ e. absurd (not-both o.going e);
-          few = λ e. absurd (not-both o.going e);
-          fine = λ e. absurd (not-both o.going e);
-          quiet = λ e. absurd (not-both o.going e);
-          same = o.depth;
-        }
+    ram-wrong o w =
+        let e : 45 ≡ write45 (tally_of n) f.clock f.dir = rw (o, ne_eqb f.dir 0 w) at (write_45 (tally_of n) f.clock f.dir (number45 over) is-ram_45) in
+        λ s h. record { is = λ c. wrong-is j _ _ _ TooMany own.early (sym (ram_fault_of 45 e)); kept = refl }
+
+    module _ (k : ℕ) (k-is : k ≡ 0) (none : k ≡ write45 (tally_of n) f.clock f.dir) (a-fits : f.place < 18446744073709551616) (v-fits : f.value < 18446744073709551616) where
+      ram-on : {r : Turn} (t : Tally) → t ≡ with_ram (tally_of n) f.clock → r.depth ≡ depth → r.ram ≡ true → Behind (number45 over) t r.counts → Stays j n depth of_ram_f (Ok r)
+      unfolding rest_of
+      ram-on {r} t t-is d m b =
+          λ s h.
+          record {
+            tally = t;
+            is = λ c. judged-goes j _ _ _ own.early (sym (ram_fault_of k none) ∙ k-is) ∙ rw (t-is, d);
+            behind = rw (over_45 (tally_of n) f.clock f.place f.value f.dir (number45 over) is-ram_45 (sym none ∙ k-is)) b;
+            fine = fine_ram _ _ _ _ a-fits v-fits own.fields;
+            quiet = λ q. absurd (not-both q m);
+            places = rw d h;
+            room = refl;
+          }
+
+    -- a read too many
+    pub ram-over : over ≡ true → f.dir ≡ 0 → f.place < 18446744073709551616 → f.value < 18446744073709551616 → Stays j n depth of_ram_f (Ok (record { counts = None; depth = depth; ram = true }))
+    ram-over o w a v =
+        let e : 0 ≡ write45 (tally_of n) f.clock f.dir = rw (eq-eqb f.dir 0 w) at (write_45 (tally_of n) f.clock f.dir (number45 over) is-ram_45) in
+        ram-on 0 refl e a v (with_ram (tally_of n) f.clock) refl refl refl (rw o)
 
     -- one RAM record more
-    abbrev ram-behind : Counts
-    ram-behind = record { last = f.clock; way = m.way; stacks = m.stacks; rams = m.rams + 1 }
+    pub ram-few : over ≡ false → m.rams + 1 ≤ most_records
+    ram-few o = above-nil (m.rams + 1) most_records 45 (omega arith) (sym (rw o at over-is))
 
-    ram-behind-is : with_ram (tally_of n) f.clock ≡ tally_of ram-behind
+    pub ram-goes : {k : Counts} → over ≡ false → tally_of k ≡ tally f.clock m.way m.stacks (m.rams + 1) → f.place < 18446744073709551616 → f.value < 18446744073709551616 →
+        Stays j n depth of_ram_f (Ok (record { counts = Some k; depth = depth; ram = true }))
     unfolding with_ram
-    ram-behind-is = ap (λ (z : Tally). tally f.clock z.way z.stacks (z.rams + 1)) (sym m-is.0)
-
-    pub ram-goes : k ≡ 0 → f.place < 18446744073709551616 → f.value < 18446744073709551616 →
-        Stays j n depth of_ram_f (record { going = true; number = over; counts = ram-behind; depth = depth; ram = 1 })
-    unfolding rest_of
-    ram-goes e h g =
-        record {
-          is = λ s c. goes-is j _ _ _ s c _ (own_is.early going) (sym ram_fault_of ∙ e) refl (ap (λ (z : Tally). built z depth s c) ram-behind-is);
-          over = λ _. over_45 (tally_of n) f.clock f.place f.value f.dir over is-ram_45 (sym is-write_45 ∙ e);
-          few = λ _ z. record { stacks = m-is.1.stacks; rams = above-nil (m.rams + 1) most_records 45 (omega arith) (sym over-is ∙ z) };
-          fine = λ _. fine_ram _ _ _ _ h g (own_is.fields going);
-          quiet = λ _ q. absurd (omega arith);
-          same = refl;
-        }
+    ram-goes {k} o k-is a v =
+        let z : number45 over ≡ 0 = rw o in
+        let w : 0 ≡ ram45 (tally_of n) f.clock = sym z ∙ is-ram_45 in
+        let q : cond (eqb f.dir 0) 0 0 ≡ write45 (tally_of n) f.clock f.dir = write_45 (tally_of n) f.clock f.dir 0 w in
+        ram-on (cond (eqb f.dir 0) 0 0) (either-nil (eqb f.dir 0)) q a v (tally_of k) (k-is ∙ ap (λ (z : Tally). tally f.clock z.way z.stacks (z.rams + 1)) m-is) refl refl (rw o (refl, refl))
 
 -- ---- a record of kind 6 or 7
 
 module _ (j : ℕ) (n : Counts) (depth t : ℕ) where
-  timed-off : (k : ℕ) {r : Turn} → ((x : Built) (s : List ℕ) (c : Cells) → judged j t (clock41 (tally_of n) t) x ≡ verdict_of r s c) → Off k depth r → Times j n depth t r
+  pub timed-late : j ≤ t → Times j n depth t (Err None)
   unfolding rest_of
-  timed-off k e o =
-      record {
-        stays =
-            λ _ fields.
-            record {
-              is = λ s c. e _ s c;
-              over = λ z. absurd (not-both o.going z);
-              few = λ z. absurd (not-both o.going z);
-              fine = λ z. is_of_timed;
-              quiet = λ z. absurd (not-both o.going z);
-              same = o.depth;
-            };
-      }
+  timed-late l = λ k fields s h. record { is = λ c. judged-stops j t _ _ l; kept = refl }
 
-  pub timed-late : {r : Turn} → j ≤ t → Off 0 depth r → Times j n depth t r
-  timed-late l o = timed-off 0 (λ x s c. late_is j t _ x s c _ l o.going o.number) o
+  pub timed_41 : t < j → t < n.last → Times j n depth t (Err (Some ClockFalls))
+  unfolding rest_of clock41
+  timed_41 l m = λ k fields s h. record { is = λ c. wrong-is j t _ _ ClockFalls l (above-is n.last t 41 m); kept = refl }
 
-  pub timed_41 : {r : Turn} → t < j → t < n.last → Off 41 depth r → Times j n depth t r
-  unfolding clock41
-  timed_41 l k o =
-      let e = above-is n.last t 41 k in
-      timed-off 41 (λ x s c. wrong-is j t _ x s c _ l (λ z. absurd (omega (arith, e, z))) o.going (o.number ∙ sym e)) o
-
-  pub timed-goes : t < j → n.last ≤ t → (m : Counts) → (tally_of m ≡ tally_at (tally_of n) t) × Few m → Times j n depth t (record { going = true; number = 0; counts = m; depth = depth; ram = 0 })
+  pub timed-goes : t < j → n.last ≤ t → (m : Counts) → tally_of m ≡ tally_at (tally_of n) t → Times j n depth t (Ok (record { counts = Some m; depth = depth; ram = false }))
   unfolding rest_of clock41 over45 ram_in
   timed-goes l k m m-is =
+      λ kind fields s h.
       record {
-        stays =
-            λ _ fields.
-            record {
-              is = λ s c. goes-is j _ _ _ s c _ l (above-not n.last t 41 k) refl (ap (λ (z : Tally). built z depth s c) (sym m-is.0));
-              over = λ _. refl;
-              few = λ _ _. m-is.1;
-              fine = λ _. is_of_timed;
-              quiet = λ _ _. refl;
-              same = refl;
-            };
+        tally = tally_of m;
+        is = λ c. judged-goes j _ _ _ l (above-not n.last t 41 k) ∙ ap (λ (z : Tally). goes (built z depth s c)) (sym m-is);
+        behind = (refl, refl);
+        fine = is_of_timed;
+        quiet = λ _. refl;
+        places = h;
+        room = refl;
       }
 
 -- ---- a record by its kind
 
-pub stack_size : (v kind : ℕ) → kind ≡ 4 → length_of v kind ≡ 23
+pub stack_size : (v : ℕ) → length_of v 4 ≡ 23
 unfolding length_of
-stack_size v kind e = rw e
+stack_size v = refl
 
-pub ram_size : (v kind : ℕ) → kind ≡ 5 → length_of v kind ≡ 23
+pub ram_size : (v : ℕ) → length_of v 5 ≡ 23
 unfolding length_of
-ram_size v kind e = rw e
+ram_size v = refl
 
-module _ (log : Log) (at kind j : ℕ) (n : Counts) (depth : ℕ) (s : List ℕ) (h : Places s depth) where
-  pub turn_stack : {after : List ℕ} {r : Turn} (f : Fields) → kind ≡ 4 → OfStack log.bytes at f →
-      Turns j n depth s (stack f.clock f.place f.dir f.value) after r → Turns j n depth s (record_at log at kind) after r
-  turn_stack f e o t = rw (stack_size log.revision kind e, e, o.is) t
+module _ (log : Log) (at j : ℕ) (n : Counts) (depth : ℕ) (s : List ℕ) where
+  pub turn_stack : (after : List ℕ) (r : Result Turn (Option Fault)) (f : Fields) → OfStack log.bytes at f →
+      Turns j n depth s (stack f.clock f.place f.dir f.value) after r → Turns j n depth s (record_at log at 4) after r
+  turn_stack after r f o t = rw (stack_size log.revision, o.is) t
 
-  pub turn_ram : {r : Turn} (f : Fields) → kind ≡ 5 → OfRam log.bytes at f → Stays j n depth (ram f.clock f.place f.value f.dir) r → Turns j n depth s (record_at log at kind) s r
-  turn_ram f e o t =
-      rw (ram_size log.revision kind e, e, o.is)
-      (record { is = λ c. t.is s c; over = t.over; few = t.few; fine = t.fine; quiet = t.quiet; kept = λ e. refl; places = rw t.same h; room = refl })
+  pub turn_ram : (r : Result Turn (Option Fault)) (f : Fields) → OfRam log.bytes at f → Places s depth → Stays j n depth (ram f.clock f.place f.value f.dir) r → Turns j n depth s (record_at log at 5) s r
+  turn_ram r f o h t = rw (ram_size log.revision, o.is) (t s h)
 
-  pub turn_timed : {r : Turn} (t : ℕ) → OfTimed log at kind t → Times j n depth t r → Turns j n depth s (record_at log at kind) s r
-  turn_timed t o k =
-      let z = k.stays kind o.fields in
-      rw o.is
-      (record { is = λ c. z.is s c; over = z.over; few = z.few; fine = z.fine; quiet = z.quiet; kept = λ e. refl; places = rw z.same h; room = refl })
+  pub turn_timed : (r : Result Turn (Option Fault)) (kind t : ℕ) → OfTimed log at kind t → Places s depth → Times j n depth t r → Turns j n depth s (record_at log at kind) s r
+  turn_timed r kind t o h k = rw o.is (k kind o.fields s h)
 
-  other-is : (b : List ℕ) → (kind ≡ 4 → ⊥) → (kind ≡ 5 → ⊥) → kind ≤ 5 → record_of kind b ≡ other kind (drop 4 b)
+  other-is : (kind : ℕ) (b : List ℕ) → kind < 4 → record_of kind b ≡ other kind (drop 4 b)
   unfolding record_of
-  other-is b k l m = rw (ne_eqb kind 4 k, ne_eqb kind 5 l, le-ltb 5 kind m)
+  other-is kind b l =
+      let x : kind ≡ 4 → ⊥ = λ z. omega arith in
+      let y : kind ≡ 5 → ⊥ = λ z. omega arith in
+      let z : kind ≤ 5 = omega arith in
+      rw (ne_eqb kind 4 x, ne_eqb kind 5 y, le-ltb 5 kind z)
 
-  pub turn_other : Few n → (kind ≡ 4 → ⊥) → (kind ≡ 5 → ⊥) → kind ≤ 5 → Turns j n depth s (record_at log at kind) s (record { going = true; number = 0; counts = n; depth = depth; ram = 0 })
-  unfolding rest_of verdict_of ram_in over45
-  turn_other few k l m =
-      rw (other-is _ k l m)
-      (record { is = λ c. refl; over = λ e. refl; few = λ _ _. few; fine = λ e. of_other; quiet = λ e q. refl; kept = λ e. refl; places = h; room = refl })
+  pub turn_other : (kind : ℕ) → kind < 4 → Places s depth → Goes j n depth s (record_at log at kind) s (record { counts = Some n; depth = depth; ram = false })
+  unfolding rest_of ram_in over45
+  turn_other kind l h =
+      rw (other-is kind _ l)
+      (record { tally = tally_of n; is = λ c. refl; behind = (refl, refl); fine = of_other; quiet = λ _. refl; places = h; room = refl })
 
 -- ---- what is counted
 
-pub counts_same : (n : Counts) (t : ℕ) → Few n → n.last ≡ t → (tally_of n ≡ tally_at (tally_of n) t) × Few n
+pub counts_same : (n : Counts) (t : ℕ) → n.last ≡ t → tally_of n ≡ tally_at (tally_of n) t
 unfolding tally_at
-counts_same n t f e = (rw (eq-eqb n.last t e), f)
+counts_same n t e = rw (eq-eqb n.last t e)
 
-pub counts_anew : (n : Counts) (t : ℕ) → (n.last ≡ t → ⊥) → (tally t 0 0 0 ≡ tally_at (tally_of n) t) × Few (record { last = t; way = 0; stacks = 0; rams = 0 })
+pub counts_anew : (n : Counts) (t : ℕ) → (n.last ≡ t → ⊥) → tally t 0 0 0 ≡ tally_at (tally_of n) t
 unfolding tally_at
-counts_anew n t e = (rw (ne_eqb n.last t e), record { stacks = omega arith; rams = omega arith })
+counts_anew n t e = rw (ne_eqb n.last t e)
+
+-- the tests of a record one too many
+
+over-above : (n : ℕ) → number45 (leb 10 n) ≡ above_of (n + 1) most_records 45
+over-above n = go (leb 10 n) refl
+  where
+    go : (t : Bool) → leb 10 n ≡ t → number45 t ≡ above_of (n + 1) most_records 45
+    go true e = let k : most_records < n + 1 = omega (arith, leb-true 10 n e) in sym (above-is (n + 1) most_records 45 k)
+    go false e = let k : n + 1 ≤ most_records = omega (arith, leb-false 10 n e) in sym (above-not (n + 1) most_records 45 k)
+
+pub over-first : (n d w : ℕ) → n ≡ 0 → 0 ≡ first_of (cond (eqb n 0) 0 (differ_of d w 45)) (above_of (n + 1) most_records 45)
+over-first n d w e = let k : n + 1 ≤ most_records = omega arith in sym (first_zero _ _ (rw (eq-eqb n 0 e)) ∙ above-not (n + 1) most_records 45 k)
+
+pub over-way : (n d w : ℕ) → (n ≡ 0 → ⊥) → (d ≡ w → ⊥) → 45 ≡ first_of (cond (eqb n 0) 0 (differ_of d w 45)) (above_of (n + 1) most_records 45)
+over-way n d w e f = sym (first-is _ _ 45 (λ z. omega arith) (rw (ne_eqb n 0 e) (differ_is d w 45 f)))
+
+pub over-many : (n d w : ℕ) → (n ≡ 0 → ⊥) → d ≡ w → number45 (leb 10 n) ≡ first_of (cond (eqb n 0) 0 (differ_of d w 45)) (above_of (n + 1) most_records 45)
+over-many n d w e f = over-above n ∙ sym (first_zero _ _ (rw (ne_eqb n 0 e) (differ_not d w 45 f)))
+
+pub over-rams : (n : ℕ) → number45 (leb 10 n) ≡ above_of (n + 1) most_records 45
+over-rams = over-above
+
+-- ---- kinds
+
+pub timed-kind : (k : RecordKind) → (k ≡ TimedTip5) ⊎ (k ≡ TimedU32) → 5 < kind_number k
+timed-kind k e = ⊎_elim (λ f. rw f (omega arith)) (λ f. rw f (omega arith)) e
+
+pub other-kind : (k : RecordKind) → (k ≡ Reset) ⊎ ((k ≡ Tip5) ⊎ (k ≡ U32)) → kind_number k < 4
+other-kind k e = ⊎_elim (λ f. rw f (omega arith)) (λ f. ⊎_elim (λ g. rw g (omega arith)) (λ g. rw g (omega arith)) f) e

@@ -1,12 +1,14 @@
 -- The next record of a walk over a log, and how many records there are at most. Assumes nothing.
 use mathlib.Core.Path.{◌≡◌, refl, sym, ap, ◌∙◌}
 use mathlib.Core.List.{List, [], ◌∷◌}
-use Prim.Native.Nat.{ℕ, zero, suc, ◌+◌, ◌-◌, ◌≤◌, ◌<◌}
+use Prim.Native.Nat.{ℕ, ◌+◌, ◌-◌, ◌≤◌, ◌<◌}
 use native.Mathlib.Omega.{arith}
 use lib.ListN.{length, drop, length-drop}
 use Rattle.machine.specs.Records.{Record, length_of, ended, broken, found}
+use Rattle.machine_log.specs.Kinds.{kind_number}
 use Rattle.replay_scan.specs.RecordView.{record_at, headed, Headed}
-use Rattle.replay_scan.specs.declared.record.Head.{Head}
+use Rattle.replay_scan.specs.declared.record.Frame.{Frame}
+use Rattle.replay_scan.specs.declared.record.Head.TheVariants.{End, Broken, Record as RecordHead}
 use Rattle.replay_scan.specs.Walk.{Log, parse_at, Walk, none, more}
 use Rattle.replay_scan.proofs.Heads.{head_record}
 
@@ -48,36 +50,38 @@ walk-place {s} {i} {b = b} h k (more n {r = r} {rs = rs} e p l w) (more m f o t 
     let y : Walk s (i + n) b rs = rw j x in
     walk-place h k w y
 
--- the record that a head tells of, where a walk has yet to pass it
-pub record Next (s : Log) (i to : ℕ) (rs : List Record) (h : Head) : Type 0 where
-  pub sized : h.size ≡ length_of s.revision h.kind
-  pub fits : i + h.size + 2 ≤ to
-  pub parsed : parse_at s i ≡ found (record_at s i h.kind) (drop (i + (h.size + 2)) s.bytes)
+-- the record that a frame tells of, where a walk has yet to pass it
+pub record Next (s : Log) (i to : ℕ) (rs : List Record) (f : Frame) : Type 0 where
+  pub sized : f.size ≡ length_of s.revision (kind_number f.kind)
+  pub fits : i + f.size + 2 ≤ to
+  pub parsed : parse_at s i ≡ found (record_at s i (kind_number f.kind)) (drop (i + (f.size + 2)) s.bytes)
   pub rest : List Record
-  pub is : rs ≡ record_at s i h.kind ∷ rest
-  pub walk : Walk s (i + h.size + 2) to rest
+  pub is : rs ≡ record_at s i (kind_number f.kind) ∷ rest
+  pub walk : Walk s (i + f.size + 2) to rest
 
-pub walk-next : {s : Log} {i to : ℕ} {rs : List Record} (h : Head) → Headed s i h → to ≤ length s.bytes → i < to → Walk s i to rs → Next s i to rs h
-unfolding headed
-walk-next h g m l none = absurd (omega arith)
+pub walk-next : {s : Log} {i to : ℕ} {rs : List Record} (f : Frame) → Headed s i (RecordHead f) → to ≤ length s.bytes → i < to → Walk s i to rs → Next s i to rs f
+walk-next f g m l none = absurd (omega arith)
 walk-next {s} {i} {to} h g m l (more n {r = r} {rs = ts} e p k w) =
-    let f = head_record s i h g (omega (arith, two)) in
+    let f = head_record s i h g in
     let q = sym f ∙ e in
-    let j : i + (h.size + 2) ≡ i + n = same_place s.bytes (i + (h.size + 2)) (i + n) (omega (arith, g.fits two)) (omega arith) (found-rest _ _ _ _ q) in
+    let j : i + (h.size + 2) ≡ i + n = same_place s.bytes (i + (h.size + 2)) (i + n) (omega (arith, g.whole.fits)) (omega arith) (found-rest _ _ _ _ q) in
     let z : i + h.size + 2 ≡ i + n = omega arith in
     record {
-      sized = g.sized two;
+      sized = g.whole.sized;
       fits = omega arith;
       parsed = f;
       rest = ts;
       is = ap (λ (x : Record). x ∷ ts) (sym (found-record _ _ _ _ q));
       walk = rw z w;
     }
-  where
-    state_is : (z : ℕ) → h.state ≡ z → h.state ≡ 2
-    state_is zero z = absurd (no_end r (drop (i + n) s.bytes) ((rw z at g.is) ∙ e))
-    state_is (suc zero) z = absurd (no_break r (drop (i + n) s.bytes) ((rw z at g.is) ∙ e))
-    state_is (suc (suc y)) z = omega (arith, g.two)
 
-    two : h.state ≡ 2
-    two = state_is h.state refl
+-- and one stands there
+pub walk-not_end : {s : Log} {i to : ℕ} {rs : List Record} → Headed s i End → i < to → Walk s i to rs → ⊥
+unfolding headed
+walk-not_end g l none = omega arith
+walk-not_end {s} {i} g l (more n {r = r} e p k w) = no_end r (drop (i + n) s.bytes) (g.is ∙ e)
+
+pub walk-not_broken : {s : Log} {i to : ℕ} {rs : List Record} → Headed s i Broken → i < to → Walk s i to rs → ⊥
+unfolding headed
+walk-not_broken g l none = omega arith
+walk-not_broken {s} {i} g l (more n {r = r} e p k w) = no_break r (drop (i + n) s.bytes) (g.is ∙ e)

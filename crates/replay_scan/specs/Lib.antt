@@ -3,3 +3,5 @@ pub mod RecordView
 pub mod Walk
 pub mod Scan
 pub mod ScanView
+pub mod FaultView
+pub mod CountsView

@@ -1,10 +1,11 @@
 -- Replay without RAM's words: frames, clocks, fields and the stack. Of a RAM record only what it says by itself is looked at.
-use Rattle.std.specs.Prelude.{◌≡◌, List, [], ◌∷◌, ℕ, zero, suc, ◌<◌, ◌≤◌, length}
+use Rattle.std.specs.Prelude.{◌≡◌, false, List, [], ◌∷◌, ℕ, zero, suc, ◌<◌, ◌≤◌, length}
 use Rattle.choices.specs.Choice.{first_of}
 use Rattle.machine.specs.Words.{p}
 use Rattle.machine.specs.Ram.{Cells}
 use Rattle.machine.specs.Records.{Record, other, timed, stack, ram, Parsed, ended, broken, found}
 use Rattle.replay_scan.specs.declared.scan.Scan.{Scan}
+use Rattle.replay_scan.specs.FaultView.{fault_or_0}
 use Rattle.replay.specs.Replay.{Tally, tally_at, with_ram, Built, built, started, fields40, clock41, ram45, stack_fault, stack_turn, Verdict, stops, wrong, goes, judged}
 use Rattle.replay_scan.specs.Walk.{Log, parse_at, Walk}
 
@@ -71,5 +72,5 @@ pub record Scanned (log : Log) (s : List ℕ) (j : ℕ) (after : List ℕ) (r : 
   pub inside : r.end ≤ length log.bytes
   pub fine : Fines records
   pub rests : (c : Cells) → Rests j (started s c) records (built counts r.depth after c) over
-  pub quiet : r.ram ≡ 0 → ram_in records ≡ 0
-  pub ends : (c : Cells) → Ends j (built counts r.depth after c) (parse_at log r.end) over r.number
+  pub quiet : r.ram ≡ false → ram_in records ≡ 0
+  pub ends : (c : Cells) → Ends j (built counts r.depth after c) (parse_at log r.end) over (fault_or_0 r.fault)

@@ -1,5 +1,7 @@
 // A record read where it stands, and the log without RAM's words.
 #![tactic(auto)]
 
+pub mod counts;
+pub mod fault;
 pub mod record;
 pub mod scan;

@@ -1,20 +1,35 @@
 // A record of a log, read where it stands.
-ghost use Rattle.std.specs.Prelude.{◌≡◌, ◌+◌, ◌≤◌, ◌<◌, length, get_or};
+ghost use Rattle.std.specs.Prelude.{◌≡◌, ◌+◌, ◌≤◌, ◌<◌, length};
 ghost use Rattle.machine.specs.Records.{length_of};
-ghost use Rattle.replay_scan.specs.RecordView.{Number, Framed, no_head, whole_head, Headed, OfStack, OfRam, OfTimed};
-ghost use Rattle.replay_scan.specs.Walk.{log_of};
+ghost use Rattle.machine_log.specs.Kinds.{kind_number};
+ghost use Rattle.replay_scan.specs.RecordView.{log_at, Number, Framed, whole_head, Headed, OfStack, OfRam, OfTimed};
 
-use machine_log::kinds::length_of;
+use machine_log::kinds::RecordKind;
 
-// What stands at a place: 0 the end, 1 no whole record, 2 a record of this kind, of `size` bytes behind its length field.
+// A log of a revision.
 #[derive(Clone, Copy)]
-pub struct Head {
-    pub state: u64,
-    pub kind: u64,
+pub struct Log<'a> {
+    pub bytes: &'a [u8],
+    pub revision: u64,
+}
+
+// A record's kind, and how many bytes stand behind its length field.
+#[derive(Clone, Copy)]
+pub struct Frame {
+    pub kind: RecordKind,
     pub size: usize,
 }
 
-// The fields of a record of the op stack, whose pointer is `place`, or of RAM, whose address it is.
+// What stands at a place: nothing more, no whole record, or one.
+#[derive(Clone, Copy)]
+pub enum Head {
+    End,
+    Broken,
+    Record(Frame),
+}
+
+// The fields of a record of the op stack, whose pointer is `place`, or of RAM, whose address it is. The direction is the byte that stands
+// there, since any other than 0 and 1 is refused behind the clock.
 #[derive(Clone, Copy)]
 pub struct Fields {
     pub clock: u64,
@@ -24,156 +39,128 @@ pub struct Fields {
 }
 
 // Length 23 and kind 4 or 5, as one number of four bytes.
-const STACK_FRAME: u64 = 262167;
+const STACK_FRAME: u32 = 262167;
 
-const RAM_FRAME: u64 = 327703;
+const RAM_FRAME: u32 = 327703;
 
 // ---- numbers, low byte first
 
-fn wide(x: u8) -> u64
-    ensures { (result ≡ x) × (result < 256) }
-{
-    x as u64
-}
-
-fn byte_at(log: &[u8], at: usize) -> u64
-    requires { at < length log.now }
-    ensures { (result ≡ get_or log.now at 0) × (result < 256) }
-{
-    wide(log[at])
-}
-
-pub fn get2(log: &[u8], at: usize) -> u64
+fn u16_at(log: &[u8], at: usize) -> u16
     requires { at + 2 ≤ length log.now }
     ensures { Number log.now at 2 65536 result }
 {
-    let low = byte_at(log, at);
-    let high = byte_at(log, at + 1);
-    low + 256 * high
+    u16::from_le_bytes([log[at], log[at + 1]])
 }
 
-fn get4(log: &[u8], at: usize) -> u64
+fn u32_at(log: &[u8], at: usize) -> u32
     requires { at + 4 ≤ length log.now }
     ensures { Number log.now at 4 4294967296 result }
 {
-    let low = get2(log, at);
-    let high = get2(log, at + 2);
-    low + 65536 * high
+    u32::from_le_bytes([log[at], log[at + 1], log[at + 2], log[at + 3]])
 }
 
-fn get8(log: &[u8], at: usize) -> u64
+fn u64_at(log: &[u8], at: usize) -> u64
     requires { at + 8 ≤ length log.now }
     ensures { Number log.now at 8 18446744073709551616 result }
 {
-    let low = get4(log, at);
-    let high = get4(log, at + 4);
-    low + 4294967296 * high
+    u64::from_le_bytes([
+        log[at],
+        log[at + 1],
+        log[at + 2],
+        log[at + 3],
+        log[at + 4],
+        log[at + 5],
+        log[at + 6],
+        log[at + 7],
+    ])
 }
 
 // ---- a record
 
-fn none(state: u64) -> Head
-    ensures { result ≡ no_head state }
-{
-    Head {
-        state: state,
-        kind: 0,
-        size: 0,
-    }
-}
-
-// Length and kind of what stands at a place, as one number.
-fn frame_at(log: &[u8], at: usize) -> u64
-    requires { at + 4 ≤ length log.now }
-    ensures { Framed log.now at result }
-{
-    let size = get2(log, at);
-    let kind = get2(log, at + 2);
-    size + 65536 * kind
-}
-
 // A record of this kind and size, if it is whole in the bytes that are left.
-fn whole(left: usize, kind: u64, size: usize) -> Head
+fn whole(left: usize, kind: RecordKind, size: usize) -> Head
     requires { size < 65536 }
     ensures { result ≡ whole_head left kind size }
 {
     if left < size + 2 {
-        return none(1);
+        return Head::Broken;
     }
-    Head {
-        state: 2,
-        kind: kind,
-        size: size,
-    }
+    Head::Record(Frame { kind, size })
 }
 
-// The frame of what stands at a place. Kinds 4 and 5 come first and by constants, so that a walk need not wait for a length that it loads.
-pub fn head_at(log: &[u8], revision: u64, at: usize) -> Head
-    requires { at ≤ length log.now }
-    ensures { Headed (log_of revision log.now) at result }
-{
-    let left = log.len() - at;
-    if left == 0 {
-        return none(0);
+impl Log<'_> {
+    // Length and kind of what stands at a place, as one number.
+    fn frame_at(self, at: usize) -> u32
+        requires { at + 4 ≤ length self.bytes.now }
+        ensures { Framed self.entry.bytes.now at result }
+    {
+        let size = u16_at(self.bytes, at);
+        let kind = u16_at(self.bytes, at + 2);
+        u32::from(size) + 65536 * u32::from(kind)
     }
-    if left < 4 {
-        return none(1);
-    }
-    let frame = frame_at(log, at);
-    if frame == STACK_FRAME {
-        return whole(left, 4, 23);
-    }
-    if frame == RAM_FRAME {
-        return whole(left, 5, 23);
-    }
-    let size = (frame % 65536) as usize;
-    let kind = frame / 65536;
-    let want = length_of(revision, kind);
-    if want == 0 {
-        return none(1);
-    }
-    if size != want {
-        return none(1);
-    }
-    whole(left, kind, size)
-}
 
-pub fn stack_fields(log: &[u8], at: usize) -> Fields
-    requires { at + 25 ≤ length log.now }
-    ensures { OfStack log.now at result }
-{
-    let clock = get4(log, at + 4);
-    let place = get8(log, at + 8);
-    let dir = byte_at(log, at + 16);
-    let value = get8(log, at + 17);
-    Fields {
-        clock: clock,
-        place: place,
-        value: value,
-        dir: dir,
+    // The frame of what stands at a place. Kinds 4 and 5 come first and by constants, so that a walk need not wait for a length that it loads.
+    pub fn head_at(self, at: usize) -> Head
+        requires { at ≤ length self.bytes.now }
+        ensures { Headed (log_at self.entry) at result }
+    {
+        let left = self.bytes.len() - at;
+        if left == 0 {
+            return Head::End;
+        }
+        if left < 4 {
+            return Head::Broken;
+        }
+        let frame = self.frame_at(at);
+        if frame == STACK_FRAME {
+            return whole(left, RecordKind::Stack, 23);
+        }
+        if frame == RAM_FRAME {
+            return whole(left, RecordKind::Ram, 23);
+        }
+        let Ok(kind) = RecordKind::try_from(u64::from(frame / 65536)) else {
+            return Head::Broken;
+        };
+        let Some(want) = kind.length(self.revision) else {
+            return Head::Broken;
+        };
+        let size = (frame % 65536) as usize;
+        if size != want {
+            return Head::Broken;
+        }
+        whole(left, kind, size)
     }
-}
 
-pub fn ram_fields(log: &[u8], at: usize) -> Fields
-    requires { at + 25 ≤ length log.now }
-    ensures { OfRam log.now at result }
-{
-    let clock = get4(log, at + 4);
-    let place = get8(log, at + 8);
-    let value = get8(log, at + 16);
-    let dir = byte_at(log, at + 24);
-    Fields {
-        clock: clock,
-        place: place,
-        value: value,
-        dir: dir,
+    // The two kinds have value and direction at other places: one function for both would be passed these, and is no plainer.
+    pub fn stack_fields(self, at: usize) -> Fields
+        requires { at + 25 ≤ length self.bytes.now }
+        ensures { OfStack self.entry.bytes.now at result }
+    {
+        Fields {
+            clock: u64::from(u32_at(self.bytes, at + 4)),
+            place: u64_at(self.bytes, at + 8),
+            value: u64_at(self.bytes, at + 17),
+            dir: u64::from(self.bytes[at + 16]),
+        }
     }
-}
 
-// The clock of a record of kind 6 or 7.
-pub fn timed_clock(log: &[u8], revision: u64, at: usize, kind: u64) -> u64
-    requires { (at + length_of revision kind + 2 ≤ length log.now) × (8 ≤ length_of revision kind + 2) × (5 < kind) }
-    ensures { OfTimed (log_of revision log.now) at kind result }
-{
-    get4(log, at + 4)
+    pub fn ram_fields(self, at: usize) -> Fields
+        requires { at + 25 ≤ length self.bytes.now }
+        ensures { OfRam self.entry.bytes.now at result }
+    {
+        Fields {
+            clock: u64::from(u32_at(self.bytes, at + 4)),
+            place: u64_at(self.bytes, at + 8),
+            value: u64_at(self.bytes, at + 16),
+            dir: u64::from(self.bytes[at + 24]),
+        }
+    }
+
+    // The clock of a record of kind 6 or 7.
+    pub fn timed_clock(self, at: usize, kind: RecordKind) -> u64
+        requires { (at + length_of self.revision (kind_number kind) + 2 ≤ length self.bytes.now) × (8 ≤ length_of self.revision (kind_number kind) + 2) × (5 < kind_number kind) }
+        ensures { OfTimed (log_at self.entry) at (kind_number kind) result }
+    {
+        u64::from(u32_at(self.bytes, at + 4))
+    }
 }

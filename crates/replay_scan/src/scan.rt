@@ -1,93 +1,35 @@
 // Replay without RAM's words: one walk over the log for frames, clocks, fields and the stack.
-ghost use Rattle.std.specs.Prelude.{◌≡◌, ◌+◌, ◌≤◌, ◌<◌, eqb, length};
-ghost use Rattle.choices.specs.Choice.{cond, first_of, above_of, differ_of};
+ghost use Rattle.std.specs.Prelude.{◌≡◌, ◌+◌, ◌≤◌, ◌<◌, length};
+ghost use Rattle.choices.specs.Choice.{cond};
 ghost use Rattle.machine.specs.Records.{stack, ram, length_of};
-ghost use Rattle.replay.specs.Replay.{tally_at, fields40, most_records};
-ghost use Rattle.replay_scan.specs.RecordView.{record_at};
+ghost use Rattle.machine_log.specs.Kinds.{kind_number};
+ghost use Rattle.replay.specs.Replay.{fields40};
+ghost use Rattle.replay_scan.specs.CountsView.{number45};
+ghost use Rattle.replay_scan.specs.FaultView.{fault_or_0};
+ghost use Rattle.replay_scan.specs.RecordView.{log_at, record_at};
 ghost use Rattle.replay_scan.specs.Scan.{Scanned};
-ghost use Rattle.replay_scan.specs.ScanView.{Places, tally_of, Few, StackFault, Movable, Moved, Off, OwnTurn, Turns, Stays, Times};
-ghost use Rattle.replay_scan.specs.Walk.{log_of};
+ghost use Rattle.replay_scan.specs.ScanView.{Places, StackFault, Movable, Moved, OwnTurn, Turns, Stays, Times};
 
-use crate::record::{Fields, head_at, ram_fields, stack_fields, timed_clock};
-use choices::numbers::{above, differ, first};
+use crate::counts::Counts;
+use crate::fault::Fault;
+use crate::record::{Fields, Head, Log};
+use machine_log::kinds::RecordKind;
 
-// What has been read at the last clock: the direction of its stack records, and how many records are of the stack and of RAM.
-#[derive(Clone, Copy)]
-pub struct Counts {
-    pub last: u64,
-    pub way: u64,
-    pub stacks: u64,
-    pub rams: u64,
-}
-
-// A scan's number, the place where it ended, the depth there, and 0 where no record before it is of RAM.
+// Where a scan ended, at which fault, if at one, with the depth there, and whether a record before is of RAM.
 #[derive(Clone, Copy)]
 pub struct Scan {
-    pub number: u64,
+    pub fault: Option<Fault>,
     pub end: usize,
     pub depth: usize,
-    pub ram: u64,
+    pub ram: bool,
 }
 
-// What a record does: it goes on, with the counts and the depth behind it, and 1 if it is of RAM; its number is then 45 if it is a RAM
-// read too many, which ends the scan behind it. Or its fault's number ends the scan, or, where that is 0, its clock.
+// What a record that goes on has behind it, and whether it is of RAM. Behind a RAM read too many, which ends the scan, nothing is counted.
 #[derive(Clone, Copy)]
 pub struct Turn {
-    pub going: bool,
-    pub number: u64,
-    pub counts: Counts,
+    pub counts: Option<Counts>,
     pub depth: usize,
-    pub ram: u64,
-}
-
-// ---- what is counted
-
-// At a clock: counting starts anew where that is not the last one.
-fn counts_at(n: Counts, clock: u64) -> Counts
-    requires { Few n }
-    ensures { (tally_of result ≡ tally_at (tally_of n) clock) × Few result }
-{
-    if n.last == clock {
-        return n;
-    }
-    Counts {
-        last: clock,
-        way: 0,
-        stacks: 0,
-        rams: 0,
-    }
-}
-
-fn other_way(n: Counts, dir: u64) -> u64
-    ensures { result ≡ cond (eqb n.stacks 0) 0 (differ_of dir n.way 45) }
-{
-    if n.stacks == 0 {
-        return 0;
-    }
-    differ(dir as usize, n.way as usize, 45)
-}
-
-// 45 of a stack record, with what is counted at its clock.
-fn stack_over(n: Counts, dir: u64) -> u64
-    requires { Few n }
-    ensures { result ≡ first_of (cond (eqb n.stacks 0) 0 (differ_of dir n.way 45)) (above_of (n.stacks + 1) most_records 45) }
-{
-    first(other_way(n, dir), above(n.stacks as usize + 1, 10, 45))
-}
-
-// 45 of a RAM record.
-fn ram_over(n: Counts) -> u64
-    requires { Few n }
-    ensures { result ≡ above_of (n.rams + 1) most_records 45 }
-{
-    above(n.rams as usize + 1, 10, 45)
-}
-
-// That of a read comes behind 43, which the scan leaves out.
-fn write_over(dir: u64, over: u64) -> u64
-    ensures { result ≡ cond (eqb dir 0) 0 over }
-{
-    if dir == 0 { 0 } else { over }
+    pub ram: bool,
 }
 
 // ---- faults: tests that return, where they can be, since choosing a number takes longer where there is none
@@ -105,32 +47,41 @@ fn fields_fit(f: Fields) -> bool
     f.value <= 18446744069414584320
 }
 
-// 42 to 45 of a record of the op stack; `over` is its 45.
-fn stack_fault(words: &[u64], depth: usize, f: Fields, over: u64) -> u64
+// A record of the op stack fits the depth and the words; `over` says whether it is one too many.
+fn stack_fault(words: &[u64], depth: usize, f: Fields, over: bool) -> Option<Fault>
     requires { Places words.now depth }
-    ensures { StackFault words.now depth f over result }
+    ensures { StackFault words.now depth f (number45 over) (fault_or_0 result) }
 {
     let place = f.place as usize;
     if f.dir != 0 {
         if place != depth {
-            return 42;
+            return Some(Fault::WrongPlace);
         }
-        if over != 0 {
-            return over;
+        if over {
+            return Some(Fault::TooMany);
         }
-        return above(depth - 15, words.len(), 44);
+        if words.len() < depth - 15 {
+            return Some(Fault::NoRoom);
+        }
+        return None;
     }
     if depth < 17 {
-        return 42;
+        return Some(Fault::WrongPlace);
     }
     if place != depth - 1 {
-        return 42;
+        return Some(Fault::WrongPlace);
     }
-    let read = differ(f.value as usize, words[depth - 17] as usize, 43);
-    first(read, over)
+    if f.value != words[depth - 17] {
+        return Some(Fault::WrongRead);
+    }
+    if over {
+        return Some(Fault::TooMany);
+    }
+    None
 }
 
-// ---- turns
+// ---- turns, one for each kind of record, since each counts another thing; what they share is own_turn. An error is
+// the fault that ends the scan at the record, or none where its clock does
 
 // The stack behind a record without a fault; gives the depth.
 fn stack_move(words: &mut [u64], depth: usize, f: Fields) -> usize
@@ -145,197 +96,178 @@ fn stack_move(words: &mut [u64], depth: usize, f: Fields) -> usize
     depth + 1
 }
 
-// The scan ends at a record, which changes nothing.
-fn off(number: u64, counts: Counts, depth: usize) -> Turn
-    ensures { Off number depth result }
-{
-    Turn {
-        going: false,
-        number: number,
-        counts: counts,
-        depth: depth,
-        ram: 0,
-    }
-}
-
-// By its own clock and fields a stack or RAM record ends the scan, with 40 or 41 or without a fault, or it goes on.
-fn own_turn(f: Fields, clock: u64, counts: Counts, depth: usize) -> Turn
-    ensures { OwnTurn clock counts depth f result }
+// A stack or RAM record by its own clock and fields.
+fn own_turn(f: Fields, clock: u64, counts: Counts) -> Result<(), Option<Fault>>
+    ensures { OwnTurn clock counts f result }
 {
     if clock <= f.clock {
-        return off(0, counts, depth);
+        return Err(None);
     }
     if !fields_fit(f) {
-        return off(40, counts, depth);
+        return Err(Some(Fault::Malformed));
     }
     if f.clock < counts.last {
-        return off(41, counts, depth);
+        return Err(Some(Fault::ClockFalls));
     }
-    Turn {
-        going: true,
-        number: 0,
-        counts: counts,
-        depth: depth,
-        ram: 0,
-    }
+    Ok(())
 }
 
-fn stack_turn(words: &mut [u64], f: Fields, clock: u64, counts: Counts, depth: usize) -> Turn
-    requires { Places words.old depth × Few counts }
+fn stack_turn(
+    words: &mut [u64],
+    f: Fields,
+    clock: u64,
+    counts: Counts,
+    depth: usize,
+) -> Result<Turn, Option<Fault>>
+    requires { Places words.old depth }
     ensures { Turns clock counts depth words.old (stack f.clock f.place f.dir f.value) words.new result }
 {
-    let own = own_turn(f, clock, counts, depth);
-    if !own.going {
-        return own;
-    }
-    let n = counts_at(counts, f.clock);
-    let fault = stack_fault(words, depth, f, stack_over(n, f.dir));
-    if fault != 0 {
-        return off(fault, counts, depth);
+    own_turn(f, clock, counts)?;
+    let here = counts.at(f.clock);
+    if let Some(fault) = stack_fault(words, depth, f, here.stack_over(f.dir)) {
+        return Err(Some(fault));
     }
     let behind = Counts {
         last: f.clock,
         way: f.dir,
-        stacks: n.stacks + 1,
-        rams: n.rams,
+        stacks: here.stacks + 1,
+        rams: here.rams,
     };
-    Turn {
-        going: true,
-        number: 0,
-        counts: behind,
+    Ok(Turn {
+        counts: Some(behind),
         depth: stack_move(words, depth, f),
-        ram: 0,
-    }
+        ram: false,
+    })
 }
 
-fn ram_turn(f: Fields, clock: u64, counts: Counts, depth: usize) -> Turn
-    requires { Few counts }
+// 45 of a read comes behind 43, which the scan leaves out.
+fn ram_turn(f: Fields, clock: u64, counts: Counts, depth: usize) -> Result<Turn, Option<Fault>>
     ensures { Stays clock counts depth (ram f.clock f.place f.value f.dir) result }
 {
-    let own = own_turn(f, clock, counts, depth);
-    if !own.going {
-        return own;
-    }
-    let n = counts_at(counts, f.clock);
-    let over = ram_over(n);
-    let fault = write_over(f.dir, over);
-    if fault != 0 {
-        return off(fault, counts, depth);
+    own_turn(f, clock, counts)?;
+    let here = counts.at(f.clock);
+    if here.ram_over() {
+        if f.dir != 0 {
+            return Err(Some(Fault::TooMany));
+        }
+        return Ok(Turn {
+            counts: None,
+            depth,
+            ram: true,
+        });
     }
     let behind = Counts {
         last: f.clock,
-        way: n.way,
-        stacks: n.stacks,
-        rams: n.rams + 1,
+        way: here.way,
+        stacks: here.stacks,
+        rams: here.rams + 1,
     };
-    Turn {
-        going: true,
-        number: over,
-        counts: behind,
-        depth: depth,
-        ram: 1,
-    }
+    Ok(Turn {
+        counts: Some(behind),
+        depth,
+        ram: true,
+    })
 }
 
 // A Tip5 or U32 record with a clock t: it moves the last clock, and is not counted.
-fn timed_turn(t: u64, clock: u64, counts: Counts, depth: usize) -> Turn
-    requires { Few counts }
+fn timed_turn(t: u64, clock: u64, counts: Counts, depth: usize) -> Result<Turn, Option<Fault>>
     ensures { Times clock counts depth t result }
 {
     if clock <= t {
-        return off(0, counts, depth);
+        return Err(None);
     }
     if t < counts.last {
-        return off(41, counts, depth);
+        return Err(Some(Fault::ClockFalls));
     }
-    Turn {
-        going: true,
-        number: 0,
-        counts: counts_at(counts, t),
-        depth: depth,
-        ram: 0,
-    }
+    Ok(Turn {
+        counts: Some(counts.at(t)),
+        depth,
+        ram: false,
+    })
 }
 
 // The record of this kind at a place. Kinds 1 to 3 are only measured.
 fn record_turn(
-    log: &[u8],
-    revision: u64,
+    log: Log<'_>,
     at: usize,
-    kind: u64,
+    kind: RecordKind,
     words: &mut [u64],
     clock: u64,
     counts: Counts,
     depth: usize,
-) -> Turn
-    requires { (at + length_of revision kind + 2 ≤ length log.now) × (0 < length_of revision kind) × Places words.old depth × Few counts }
-    ensures { Turns clock counts depth words.old (record_at (log_of revision log.now) at kind) words.new result }
+) -> Result<Turn, Option<Fault>>
+    requires { (at + length_of log.revision (kind_number kind) + 2 ≤ length log.bytes.now) × (0 < length_of log.revision (kind_number kind)) × Places words.old depth }
+    ensures { Turns clock counts depth words.old (record_at (log_at log.entry) at (kind_number kind)) words.new result }
 {
-    if kind == 4 {
-        let f = stack_fields(log, at);
-        return stack_turn(words, f, clock, counts, depth);
-    }
-    if kind == 5 {
-        let f = ram_fields(log, at);
-        return ram_turn(f, clock, counts, depth);
-    }
-    if 5 < kind {
-        let t = timed_clock(log, revision, at, kind);
-        return timed_turn(t, clock, counts, depth);
-    }
-    Turn {
-        going: true,
-        number: 0,
-        counts: counts,
-        depth: depth,
-        ram: 0,
+    match kind {
+        RecordKind::Stack => stack_turn(words, log.stack_fields(at), clock, counts, depth),
+        RecordKind::Ram => ram_turn(log.ram_fields(at), clock, counts, depth),
+        RecordKind::TimedTip5 | RecordKind::TimedU32 => {
+            timed_turn(log.timed_clock(at, kind), clock, counts, depth)
+        }
+        RecordKind::Reset | RecordKind::Tip5 | RecordKind::U32 => Ok(Turn {
+            counts: Some(counts),
+            depth,
+            ram: false,
+        }),
     }
 }
 
-// The log up to a record that its clock or a fault ends, or behind a RAM read too many; writes the stack's words.
-pub fn scan_log(log: &[u8], revision: u64, words: &mut [u64], clock: u64) -> Scan
-    ensures { Scanned (log_of revision log.now) words.old clock words.new result }
+// The log up to a record that its clock or a fault ends, or behind a RAM read too many; writes the stack's words. It goes on by each record's own
+// length. An iterator over records is no plainer: it would hand out the places too, where a scan and a group end, and carry facts of what is left.
+pub fn scan_log(log: Log<'_>, words: &mut [u64], clock: u64) -> Scan
+    ensures { Scanned (log_at log.entry) words.old clock words.new result }
 {
     let mut at = 0;
-    let mut counts = Counts {
-        last: 0,
-        way: 0,
-        stacks: 0,
-        rams: 0,
-    };
+    let mut counts = Counts::none(0);
     let mut depth = 16;
-    let mut ram = 0;
+    let mut ram = false;
     loop {
-        let h = head_at(log, revision, at);
-        if h.state < 2 {
-            return Scan {
-                number: 40 * h.state,
-                end: at,
-                depth: depth,
-                ram: ram,
-            };
-        }
-        let next = at + h.size + 2;
-        let t = record_turn(log, revision, at, h.kind, words, clock, counts, depth);
-        if !t.going {
-            return Scan {
-                number: t.number,
-                end: at,
-                depth: depth,
-                ram: ram,
-            };
-        }
-        counts = t.counts;
-        depth = t.depth;
-        ram = first(ram, t.ram);
+        let frame = match log.head_at(at) {
+            Head::End => {
+                return Scan {
+                    fault: None,
+                    end: at,
+                    depth,
+                    ram,
+                };
+            }
+            Head::Broken => {
+                return Scan {
+                    fault: Some(Fault::Malformed),
+                    end: at,
+                    depth,
+                    ram,
+                };
+            }
+            Head::Record(frame) => frame,
+        };
+        // before the turn, so that it is at + 25 for kinds 4 and 5
+        let next = at + frame.size + 2;
+        let turn = match record_turn(log, at, frame.kind, words, clock, counts, depth) {
+            Ok(turn) => turn,
+            Err(fault) => {
+                return Scan {
+                    fault,
+                    end: at,
+                    depth,
+                    ram,
+                };
+            }
+        };
         at = next;
-        if t.number != 0 {
-            return Scan {
-                number: t.number,
-                end: at,
-                depth: depth,
-                ram: ram,
-            };
-        }
+        depth = turn.depth;
+        ram |= turn.ram;
+        counts = match turn.counts {
+            Some(behind) => behind,
+            None => {
+                return Scan {
+                    fault: Some(Fault::TooMany),
+                    end: at,
+                    depth,
+                    ram,
+                };
+            }
+        };
     }
 }

@@ -5,3 +5,4 @@ pub mod StoresLaws
 pub mod MergeLaws
 pub mod CountLaws
 pub mod TableLaws
+pub mod KeptLaws

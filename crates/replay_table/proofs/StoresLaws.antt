@@ -8,7 +8,7 @@ use lib.ListN.{length, get_or}
 use lib.Seq.{get_or-set_other}
 use lib.Dec.{eqb}
 use Rattle.choices.specs.Choice.{cond}
-use Rattle.machine.specs.Ram.{Cells, cells, at, absent, Found, find, has_at, has, held, stored}
+use Rattle.machine.specs.Ram.{Cells, at, absent, Found, find, has_at, has, held, stored}
 use Rattle.machine.proofs.RamLaws.{found_at, found-absent, stored-count, stored_more, stored_addresses, stored_values, has-stored, held-stored, stored-ascending}
 use Rattle.machine_ram.proofs.RamView.{write-at, write-absent}
 use Rattle.machine.proofs.Moves.{inserted-behind}

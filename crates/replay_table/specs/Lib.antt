@@ -3,3 +3,4 @@ pub mod Merge
 pub mod Group
 pub mod Table
 pub mod TableView
+pub mod LentView

@@ -1,5 +1,6 @@
-// The table of written cells, and merging.
+// Cells brought into others, and a group's table of written cells.
 #![tactic(auto)]
 
-pub mod merge;
+pub mod cells;
+mod merge;
 pub mod table;

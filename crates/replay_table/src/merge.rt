@@ -2,10 +2,7 @@
 // once, however many come.
 ghost use Rattle.std.specs.Prelude.{◌≤◌, ◌<◌, length};
 ghost use Rattle.machine.specs.Ram.{cells as cells_of};
-ghost use Rattle.machine_ram.specs.RamView.{Ordered};
-ghost use Rattle.replay_table.specs.Merge.{Merging, Merged, Topped, LacksOne, Lacked};
-
-use machine_ram::ram::{Found, find};
+ghost use Rattle.replay_table.specs.Merge.{Merging, Merged, Topped};
 
 // The cell that stands topmost of those left, and how many are then left of both.
 #[derive(Clone, Copy)]
@@ -50,7 +47,8 @@ fn top(addresses: &[u64], values: &[u64], i: usize, keys: &[u64], vals: &[u64], 
     }
 }
 
-// Brings n cells into those of two slices, which are `total` then.
+// Brings n cells into those of two slices, which are `total` then. Slices and not Cells, which they are not while half is merged. The places are counted by hand,
+// since no iterator goes down one slice while it writes to places above.
 pub fn merge(
     addresses: &mut [u64],
     values: &mut [u64],
@@ -74,29 +72,4 @@ pub fn merge(
         i = t.own;
         j = t.new;
     }
-}
-
-// 1 where an address has no cell.
-fn lacks(addresses: &[u64], count: usize, address: u64) -> usize
-    requires { Ordered addresses.now count }
-    ensures { LacksOne addresses.now count address result }
-{
-    match find(addresses, count, address) {
-        Found::At(_) => 0,
-        Found::Absent(_) => 1,
-    }
-}
-
-// How many of n new cells have an address that the own ones lack.
-pub fn count_new(addresses: &[u64], count: usize, keys: &[u64], n: usize) -> usize
-    requires { (Ordered addresses.now count) × (n ≤ length keys.now) }
-    ensures { Lacked addresses.now count keys.now n result }
-{
-    let mut i = 0;
-    let mut new = 0;
-    while i < n {
-        new += lacks(addresses, count, keys[i]);
-        i += 1;
-    }
-    new
 }

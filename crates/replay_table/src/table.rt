@@ -1,170 +1,138 @@
-// A group's table: the cells that the log's records wrote to. Most stand in a large table, ascending; the latest in a small
-// one, where a new cell moves few, and which is merged into the large one. The large one's slices are keys and vals, of which
-// n cells are used; the small one's are lkeys and lvals, of which m are.
-ghost use Rattle.std.specs.Prelude.{◌≡◌, false as False, ◌+◌, ◌≤◌, ◌<◌, length};
+// A group's table: the cells that the log's records wrote to.
+ghost use Rattle.std.specs.Prelude.{◌≡◌, false as False, ◌+◌, ◌<◌, length};
 ghost use Rattle.choices.specs.Choice.{cond};
-ghost use Rattle.machine.specs.Ram.{cells as cells_of, has, held};
+ghost use Rattle.machine.specs.Ram.{has, held};
 ghost use Rattle.replay_table.specs.Merge.{Sorted, Merged};
 ghost use Rattle.replay_table.specs.Table.{seen, Paired, Puts, Makes};
 ghost use Rattle.replay_table.specs.TableView.{Waits};
+ghost use Rattle.replay_table.specs.LentView.{cells_at, KeptTable, Alike};
 
-use crate::merge::merge;
-use machine_ram::ram::{Found, find, read, write};
+use crate::cells::Cells;
+use machine_ram::ram::Found;
 
-// How many cells stand in the table and how many late ones; and where the group ends.
-#[derive(Clone, Copy)]
-pub struct Made {
-    pub n: usize,
-    pub m: usize,
-    pub hi: u64,
+// Most cells stand in the table's own; the latest in a few beside, where a new cell moves few, and which are merged into the others. What its
+// slices must be stands in clauses and not in ghost fields, which would ask the room of a group at each call, and have to hold within a merge.
+#[derive(Drop)]
+pub struct Table<'a> {
+    pub cells: Cells<'a>,
+    pub late: Cells<'a>,
 }
 
-// ---- a word
-
-// A late cell's, else the opening's.
-fn late_word(
-    lkeys: &[u64],
-    lvals: &[u64],
-    m: usize,
-    addresses: &[u64],
-    values: &[u64],
-    count: usize,
-    a: u64,
-) -> u64
-    requires { Sorted (cells_of m lkeys.now lvals.now) × Sorted (cells_of count addresses.now values.now) }
-    ensures { result ≡ cond (has (cells_of m lkeys.now lvals.now) a) (held (cells_of m lkeys.now lvals.now) a) (held (cells_of count addresses.now values.now) a) }
-{
-    match find(lkeys, m, a) {
-        Found::At(i) => lvals[i],
-        Found::Absent(_) => read(addresses, values, count, a),
+impl Table<'_> {
+    // No cells.
+    pub fn clear(&mut self)
+        ensures count { self.new.cells.count ≡ 0 }
+        ensures late { self.new.late.count ≡ 0 }
+        ensures alike { Alike self.old.cells self.new.cells × Alike self.old.late self.new.late }
+        ensures kept { KeptTable self.old self.new }
+    {
+        self.cells.count = 0;
+        self.late.count = 0;
     }
-}
 
-// The table's, else a late cell's, else the opening's.
-pub fn word_at(
-    keys: &[u64],
-    vals: &[u64],
-    n: usize,
-    lkeys: &[u64],
-    lvals: &[u64],
-    m: usize,
-    addresses: &[u64],
-    values: &[u64],
-    count: usize,
-    a: u64,
-) -> u64
-    requires { Paired (cells_of n keys.now vals.now) (cells_of m lkeys.now lvals.now) × Sorted (cells_of count addresses.now values.now) }
-    ensures { result ≡ seen (cells_of n keys.now vals.now) (cells_of m lkeys.now lvals.now) a (held (cells_of count addresses.now values.now) a) }
-{
-    match find(keys, n, a) {
-        Found::At(i) => vals[i],
-        Found::Absent(_) => late_word(lkeys, lvals, m, addresses, values, count, a),
-    }
-}
+    // ---- a word
 
-// ---- a write
-
-// Gives how many late cells there are then.
-pub fn put(
-    keys: &[u64],
-    vals: &mut [u64],
-    n: usize,
-    lkeys: &mut [u64],
-    lvals: &mut [u64],
-    m: usize,
-    a: u64,
-    v: u64,
-) -> usize
-    requires { Paired (cells_of n keys.now vals.old) (cells_of m lkeys.old lvals.old) × (m < length lkeys.old) }
-    ensures { Puts (cells_of n keys.now vals.old) (cells_of m lkeys.old lvals.old) a v (cells_of n keys.now vals.new) (cells_of result lkeys.new lvals.new) }
-{
-    match find(keys, n, a) {
-        Found::At(i) => {
-            vals[i] = v;
-            m
+    // A late cell's, else the opening's.
+    fn late_word(&self, opening: &Cells<'_>, address: u64) -> u64
+        requires { Sorted (cells_at self.now.late) × Sorted (cells_at opening.now) }
+        ensures { result ≡ cond (has (cells_at self.now.late) address) (held (cells_at self.now.late) address) (held (cells_at opening.now) address) }
+    {
+        match self.late.find(address) {
+            Found::At(i) => self.late.values[i],
+            Found::Absent(_) => opening.read(address),
         }
-        Found::Absent(_) => write(lkeys, lvals, m, a, v),
     }
-}
 
-// ---- room
+    // The table's, else a late cell's, else the opening's.
+    pub fn word_at(&self, opening: &Cells<'_>, address: u64) -> u64
+        requires { Paired (cells_at self.now.cells) (cells_at self.now.late) × Sorted (cells_at opening.now) }
+        ensures { result ≡ seen (cells_at self.now.cells) (cells_at self.now.late) address (held (cells_at opening.now) address) }
+    {
+        match self.cells.find(address) {
+            Found::At(i) => self.cells.values[i],
+            Found::Absent(_) => self.late_word(opening, address),
+        }
+    }
 
-// Whether there is room for a late cell. The late ones are merged when they are many beside the table's, so that most
-// addresses are found at the first look; any bound is right.
-fn waits(n: usize, m: usize, most: usize, lmost: usize) -> bool
-    requires { (n ≤ most) × (m ≤ lmost) }
-    ensures { Waits n m most lmost result }
-{
-    if lmost <= m {
-        return false;
-    }
-    if most - n <= m {
-        return false;
-    }
-    m <= n / 32 + 16
-}
+    // ---- a write
 
-// The late cells merged into the table; gives how many cells it has then.
-pub fn settle(
-    keys: &mut [u64],
-    vals: &mut [u64],
-    n: usize,
-    lkeys: &[u64],
-    lvals: &[u64],
-    m: usize,
-) -> usize
-    requires { Paired (cells_of n keys.old vals.old) (cells_of m lkeys.now lvals.now) }
-    ensures { (result ≡ n + m) × Merged (cells_of n keys.old vals.old) (cells_of m lkeys.now lvals.now) (cells_of result keys.new vals.new) }
-{
-    let total = n + m;
-    merge(keys, vals, n, lkeys, lvals, m, total);
-    total
-}
+    pub fn put(&mut self, address: u64, value: u64)
+        requires { Paired (cells_at self.old.cells) (cells_at self.old.late) × (self.old.late.count < length self.old.late.addresses.now) }
+        ensures count { self.new.cells.count ≡ self.old.cells.count }
+        ensures puts { Puts (cells_at self.old.cells) (cells_at self.old.late) address value (cells_at self.new.cells) (cells_at self.new.late) }
+        ensures kept { KeptTable self.old self.new }
+    {
+        match self.cells.find(address) {
+            Found::At(i) => {
+                self.cells.values[i] = value;
+            }
+            Found::Absent(_) => {
+                self.late.write(address, value);
+            }
+        }
+    }
 
-// Room by merging; where the table is full then, only its lower half is kept, and the group ends before the rest.
-fn make_more(
-    keys: &mut [u64],
-    vals: &mut [u64],
-    n: usize,
-    lkeys: &[u64],
-    lvals: &[u64],
-    m: usize,
-    hi: u64,
-) -> Made
-    requires { Paired (cells_of n keys.old vals.old) (cells_of m lkeys.now lvals.now) × (0 < length keys.old) × Waits n m (length keys.old) (length lkeys.now) False }
-    ensures { Makes (cells_of n keys.old vals.old) (cells_of m lkeys.now lvals.now) hi (cells_of result.n keys.new vals.new) result.m result.hi }
-{
-    let total = settle(keys, vals, n, lkeys, lvals, m);
-    if total < keys.len() {
-        return Made {
-            n: total,
-            m: 0,
-            hi: hi,
-        };
-    }
-    let half = keys.len() / 2;
-    Made {
-        n: half,
-        m: 0,
-        hi: keys[half],
-    }
-}
+    // ---- room
 
-// Room for one late cell more, and for all of them in the table.
-pub fn make_room(
-    keys: &mut [u64],
-    vals: &mut [u64],
-    n: usize,
-    lkeys: &[u64],
-    lvals: &[u64],
-    m: usize,
-    hi: u64,
-) -> Made
-    requires { Paired (cells_of n keys.old vals.old) (cells_of m lkeys.now lvals.now) × (0 < length keys.old) }
-    ensures { Makes (cells_of n keys.old vals.old) (cells_of m lkeys.now lvals.now) hi (cells_of result.n keys.new vals.new) result.m result.hi }
-{
-    if waits(n, m, keys.len(), lkeys.len()) {
-        return Made { n: n, m: m, hi: hi };
+    // Whether there is room for a late cell. The late ones are merged when they are many beside the table's, so that most
+    // addresses are found at the first look; any bound is right.
+    fn waits(&self) -> bool
+        requires { Paired (cells_at self.now.cells) (cells_at self.now.late) }
+        ensures { Waits self.now.cells.count self.now.late.count (length self.now.cells.addresses.now) (length self.now.late.addresses.now) result }
+    {
+        let used = self.cells.count;
+        let late = self.late.count;
+        if self.late.addresses.len() <= late {
+            return false;
+        }
+        if self.cells.addresses.len() - used <= late {
+            return false;
+        }
+        late <= used / 32 + 16
     }
-    make_more(keys, vals, n, lkeys, lvals, m, hi)
+
+    // The late cells merged into the table.
+    pub fn settle(&mut self)
+        requires { Paired (cells_at self.old.cells) (cells_at self.old.late) }
+        ensures merged { Merged (cells_at self.old.cells) (cells_at self.old.late) (cells_at self.new.cells) }
+        ensures count { self.new.cells.count ≡ self.old.cells.count + self.old.late.count }
+        ensures late { self.new.late.count ≡ 0 }
+        ensures alike { Alike self.old.late self.new.late }
+        ensures kept { KeptTable self.old self.new }
+    {
+        let most = self.cells.addresses.len();
+        let total = self.cells.count + self.late.count;
+        prove!(total <= most);
+        self.cells.merge(&self.late, total);
+        self.late.count = 0;
+    }
+
+    // Room by merging; where the table is full then, only its lower half is kept, and the group ends before the rest. Gives where it ends.
+    fn make_more(&mut self, hi: u64) -> u64
+        requires { Paired (cells_at self.old.cells) (cells_at self.old.late) × (0 < length self.old.cells.addresses.now) × Waits self.old.cells.count self.old.late.count (length self.old.cells.addresses.now) (length self.old.late.addresses.now) False }
+        ensures makes { Makes (cells_at self.old.cells) (cells_at self.old.late) hi (cells_at self.new.cells) self.new.late.count result }
+        ensures alike { Alike self.old.late self.new.late }
+        ensures kept { KeptTable self.old self.new }
+    {
+        self.settle();
+        if self.cells.count < self.cells.addresses.len() {
+            return hi;
+        }
+        let half = self.cells.addresses.len() / 2;
+        self.cells.count = half;
+        self.cells.addresses[half]
+    }
+
+    // Room for one late cell more, and for all of them in the table; gives where the group ends.
+    pub fn make_room(&mut self, hi: u64) -> u64
+        requires { Paired (cells_at self.old.cells) (cells_at self.old.late) × (0 < length self.old.cells.addresses.now) }
+        ensures makes { Makes (cells_at self.old.cells) (cells_at self.old.late) hi (cells_at self.new.cells) self.new.late.count result }
+        ensures alike { Alike self.old.late self.new.late }
+        ensures kept { KeptTable self.old self.new }
+    {
+        if self.waits() {
+            return hi;
+        }
+        self.make_more(hi)
+    }
 }

@@ -1,21 +1,24 @@
+use mathlib.Core.Path.{refl}
+use Rattle.std.proofs.lemmas.Result.{err_from_is_err_and}
+use Rattle.replay_scan.proofs.ScanLaws.{fault_some}
 use Rattle.replay_calls.proofs.Deciding.{call-refused, opens, scans, call-wrong, call-right}
 use Rattle.replay_calls.proofs.QuietLaws.{scan_quiet}
 use Rattle.replay_calls.proofs.call.replay.Goals as goal
 
-pub returns-then-fault-ne0 : goal.returns-then-fault-ne0
-returns-then-fault-ne0 c =
-    call-refused _ _ _ _ _ _ _ c.check_replay-fault.ensures c.if-fault-ne0.true c.refused.ensures
+pub returns-in_err-check_replay-clause-replayed : goal.returns-in_err-check_replay-clause-replayed
+returns-in_err-check_replay-clause-replayed c =
+    let p = err_from_is_err_and c.from_residual.result c.from_residual.ensures.1 in rw (p.1, p.2) (call-refused _ _ _ _ c.args.clock c.in_err-check_replay.field-0.0 c.in_err-check_replay.ensures)
 
-pub by_table-r-requires : goal.by_table-r-requires
-by_table-r-requires c =
-    (scans c.scan_log-scan.ensures (opens _ _ _ _ _ c.check_replay-fault.ensures c.if-fault-ne0.false), scan_quiet c.scan_log-scan.ensures)
+pub by_table-requires : goal.by_table-requires
+by_table-requires c =
+    (scans c.scan_log-scan.ensures (opens _ _ _ _ c.in_ok-check_replay.ensures), scan_quiet c.scan_log-scan.ensures)
 
-pub returns-then-r-ne0 : goal.returns-then-r-ne0
-returns-then-r-ne0 c =
-    let t = c.by_table-r.ensures in
-    call-wrong _ _ _ _ _ _ _ _ _ c.check_replay-fault.ensures c.if-fault-ne0.false c.scan_log-scan.ensures t.decides c.if-r-ne0.true _ (t.kept c.if-r-ne0.true) _ _ c.words-1.given c.clear.ensures c.refused-then-r-ne0.ensures
+pub returns-in-Err-clause-replayed : goal.returns-in-Err-clause-replayed
+returns-in-Err-clause-replayed c =
+    let t = c.in-Err.ensures.rebuilds in
+    call-wrong _ _ _ _ _ _ _ _ c.in_ok-check_replay.ensures c.scan_log-scan.ensures t.decides _ refl _ (t.kept (fault_some c.in-Err.fault)) _ c.scan_log-scan.auto.words c.clear.ensures
 
-pub returns : goal.returns
-returns c =
-    let t = c.by_table-r.ensures in
-    call-right _ _ _ _ _ _ _ _ _ c.check_replay-fault.ensures c.if-fault-ne0.false c.scan_log-scan.ensures t.decides c.if-r-ne0.false _ _ _ (t.written c.if-r-ne0.false)
+pub returns-clause-replayed : goal.returns-clause-replayed
+returns-clause-replayed c =
+    let t = c.in_default.ensures.rebuilds in
+    call-right _ _ _ _ _ _ _ _ c.in_ok-check_replay.ensures c.scan_log-scan.ensures t.decides refl _ (t.written refl)

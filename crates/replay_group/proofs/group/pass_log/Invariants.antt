@@ -1,18 +1,16 @@
 use Prim.Native.Nat.{◌-◌}
-use mathlib.Core.Path.{◌≡◌}
-use lib.ListN.{length}
-use Rattle.replay_scan.specs.Walk.{log_of}
-use Rattle.machine.specs.Ram.{cells as cells_of}
+use Rattle.replay_scan.specs.RecordView.{log_at}
+use Rattle.replay_table.specs.LentView.{KeptTable}
+use Rattle.replay_group.specs.GroupView.{looks, opening_of}
 use Rattle.replay_group.proofs.PassLaws.{Going}
 use Rattle.replay_group.proofs.group.pass_log.Given as goal
 
 abbrev pub invariant-loop-at : goal.invariant-loop-at
 invariant-loop-at l =
-    Going (log_of l.revision l.log) l.to l.checking l.lo l.hi (cells_of l.count l.addresses l.values) l.at l.n l.keys l.vals l.m l.lkeys l.lvals
-    × (length l.keys ≡ length l.initial.keys)
-    × (length l.vals ≡ length l.initial.vals)
-    × (length l.lkeys ≡ length l.initial.lkeys)
-    × (length l.lvals ≡ length l.initial.lvals)
+    record {
+      going : Going (log_at l.log) l.to (looks l.opening) l.low l.high (opening_of l.opening) l.at l.table.cells.count l.table.cells.addresses.now l.table.cells.values.now l.table.late.count l.table.late.addresses.now l.table.late.values.now;
+      kept : KeptTable l.initial.table l.table;
+    }
 
 abbrev pub decreases-loop-at : goal.decreases-loop-at
 decreases-loop-at l = l.to - l.at

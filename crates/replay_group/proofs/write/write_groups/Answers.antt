@@ -1,62 +1,67 @@
-use Prim.Native.Nat.{◌-◌}
 use native.Mathlib.Omega.{arith}
 use mathlib.Core.Path.{◌≡◌, refl}
 use Rattle.machine.specs.Words.{p}
+use Rattle.replay_table.proofs.KeptLaws.{kept_same, kept_on, table_same, table_on}
+use Rattle.replay_table.proofs.TableLaws.{sorted_none}
 use Rattle.replay_group.proofs.SweepLaws.{lent_again}
 use Rattle.replay_group.proofs.WriteLaws.{writing-none, writing-few, writing_more, writing-fits, writing-room, writing_end, gathered-all}
 use Rattle.replay_group.proofs.write.write_groups.Goals as goal
 
-pub loop-lo-init : goal.loop-lo-init
-loop-lo-init c =
-    (omega arith, refl, refl, refl, refl, refl, refl, λ rs w. writing-none _ rs _ c.requires.0.sorted)
+pub loop-low-init : goal.loop-low-init
+loop-low-init c =
+    record { below = omega arith; kept = kept_same _; kept_table = table_same _; writing = λ rs w. writing-none _ rs _ c.requires.0.sorted }
 
-pub group_from-g-requires : goal.group_from-g-requires
-group_from-g-requires c =
+pub group_from-group-requires : goal.group_from-group-requires
+group_from-group-requires c =
     let r = c.requires in
-    let l = c.loop-lo.invariant in
-    (record { records = r.0.records; walk = r.0.walk; ends = r.0.ends }, c.loop-lo-test.true, (l.7 r.0.records r.0.walk).brought.sorted, lent_again r.1 l.3 l.4 l.5 l.6)
+    let k = c.loop-low.invariant.kept_table in
+    (record { records = r.0.records; walk = r.0.walk; ends = r.0.ends }, c.loop-low-test.true, sorted_none _ _ refl, lent_again r.1 k.cells.room k.cells.pair k.late.room k.late.pair)
 
-pub bring-used-requires : goal.bring-used-requires
-bring-used-requires c =
+pub bring-requires : goal.bring-requires
+bring-requires c =
     let r = c.requires in
-    let l = c.loop-lo.invariant in
-    let d = c.group_from-g.ensures in
-    writing-fits (l.7 r.0.records r.0.walk) d.above (gathered-all (d.gathered r.0.records r.0.walk)) r.0.room d.below
+    let l = c.loop-low.invariant in
+    let d = c.group_from-group.ensures.gathers in
+    writing-fits (l.writing r.0.records r.0.walk) d.above (gathered-all (d.gathered r.0.records r.0.walk)) r.0.room d.below
 
-pub loop-lo-smaller : goal.loop-lo-smaller
-loop-lo-smaller c =
-    let d = c.group_from-g.ensures in
+pub loop-low-smaller : goal.loop-low-smaller
+loop-low-smaller c =
+    let d = c.group_from-group.ensures.gathers in
     omega (arith, d.above, d.below)
 
-pub loop-lo-preserved : goal.loop-lo-preserved
-loop-lo-preserved c =
+pub loop-low-preserved : goal.loop-low-preserved
+loop-low-preserved c =
     let r = c.requires in
-    let l = c.loop-lo.invariant in
-    let d = c.group_from-g.ensures in
-    let k = c.group_from-g.auto in
-    let b = c.bring-used.auto in (
-      d.below,
-      omega (arith, b, l.1),
-      omega (arith, b, l.2),
-      omega (arith, k, l.3),
-      omega (arith, k, l.4),
-      omega (arith, k, l.5),
-      omega (arith, k, l.6),
-      λ rs w.
-          let g = l.7 rs w in
+    let l = c.loop-low.invariant in
+    let d = c.group_from-group.ensures.gathers in
+    let k = table_on l.kept_table c.group_from-group.ensures.kept in
+    record {
+      below = d.below;
+      kept = kept_on l.kept c.bring.ensures.kept;
+      kept_table = k;
+      writing =
+          λ rs w.
+          let g = l.writing rs w in
           let t = gathered-all (d.gathered rs w) in
-          writing_more g d.above d.below c.loop-lo-test.true t c.bring-used.ensures (writing-fits g d.above t (writing-room r.0 w) d.below) (λ z. omega (arith, d.half z, k, l.3)),
-    )
+          writing_more g d.above d.below c.loop-low-test.true t c.bring.ensures.brings (writing-fits g d.above t (writing-room r.0 w) d.below) (λ z. omega (arith, d.half z, k.cells.room));
+    }
 
-pub returns : goal.returns
-returns c =
+pub returns-clause-written : goal.returns-clause-written
+returns-clause-written c =
     let r = c.requires in
-    let l = c.loop-lo.invariant in
-    let e : c.loop-lo.lo ≡ p = omega (arith, l.0) in
-    writing_end r.0 (λ rs w. rw e at (l.7 rs w))
+    let l = c.loop-low.invariant in
+    let e : c.loop-low.low ≡ p = omega (arith, l.below) in
+    (writing_end r.0 (λ rs w. rw e at (l.writing rs w))).0
+
+pub returns-clause-few : goal.returns-clause-few
+returns-clause-few c =
+    let r = c.requires in
+    let l = c.loop-low.invariant in
+    let e : c.loop-low.low ≡ p = omega (arith, l.below) in
+    (writing_end r.0 (λ rs w. rw e at (l.writing rs w))).1
 
 pub overflow_add-groups : goal.overflow_add-groups
 overflow_add-groups c =
     let r = c.requires in
-    let l = c.loop-lo.invariant in
-    omega (arith, writing-few r.0.walk (l.7 r.0.records r.0.walk) (omega (arith, r.1.two)) c.loop-lo-test.true, r.0.ends)
+    let l = c.loop-low.invariant in
+    omega (arith, writing-few r.0.walk (l.writing r.0.records r.0.walk) (omega (arith, r.1.two)) c.loop-low-test.true, r.0.ends)

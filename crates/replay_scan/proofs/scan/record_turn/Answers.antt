@@ -1,34 +1,28 @@
-use Rattle.replay_scan.specs.Walk.{log_of}
-use Rattle.replay_scan.proofs.Rows.{timed_long}
-use Rattle.replay_scan.proofs.ScanLaws.{stack_size, ram_size, turn_stack, turn_ram, turn_timed, turn_other}
 use native.Mathlib.Omega.{arith}
+use Rattle.replay_scan.specs.RecordView.{log_at}
+use Rattle.replay_scan.proofs.Rows.{timed_long}
+use Rattle.replay_scan.proofs.ScanLaws.{stack_size, ram_size, turn_stack, turn_ram, turn_timed, turn_other, timed-kind, other-kind}
 use Rattle.replay_scan.proofs.scan.record_turn.Goals as goal
 
-pub stack_fields-f-requires : goal.stack_fields-f-requires
-stack_fields-f-requires c =
-    omega (arith, stack_size c.args.revision _ c.if-kind-eq4.true)
+pub stack_fields-requires : goal.stack_fields-requires
+stack_fields-requires c = omega (arith, rw (c.in-Stack.is, stack_size c.args.log.revision) at c.requires.0)
 
-pub returns-then-kind-eq4 : goal.returns-then-kind-eq4
-returns-then-kind-eq4 c =
-    turn_stack _ _ _ _ _ _ _ c.requires.2 _ c.if-kind-eq4.true c.stack_fields-f.ensures c.stack_turn.ensures
+pub ram_fields-requires : goal.ram_fields-requires
+ram_fields-requires c = omega (arith, rw (c.in-Ram.is, ram_size c.args.log.revision) at c.requires.0)
 
-pub ram_fields-f-requires : goal.ram_fields-f-requires
-ram_fields-f-requires c =
-    omega (arith, ram_size c.args.revision _ c.if-kind-eq5.true)
+pub timed_clock-requires : goal.timed_clock-requires
+timed_clock-requires c =
+    let k = timed-kind _ c.in-TimedTip5.is in
+    (c.requires.0, timed_long c.args.log.revision _ k c.requires.1, k)
 
-pub returns-then-kind-eq5 : goal.returns-then-kind-eq5
-returns-then-kind-eq5 c =
-    turn_ram _ _ _ _ _ _ _ c.requires.2 _ c.if-kind-eq5.true c.ram_fields-f.ensures c.ram_turn.ensures
+pub returns-in-Stack : goal.returns-in-Stack
+returns-in-Stack c = rw c.in-Stack.is (turn_stack (log_at c.args.log) _ _ _ _ _ _ _ c.stack_fields.result c.stack_fields.ensures c.stack_turn.ensures)
 
-pub timed_clock-t-requires : goal.timed_clock-t-requires
-timed_clock-t-requires c =
-    (c.requires.0, timed_long c.args.revision _ c.if-kind-gt5.true c.requires.1, c.if-kind-gt5.true)
+pub returns-in-Ram : goal.returns-in-Ram
+returns-in-Ram c = rw c.in-Ram.is (turn_ram (log_at c.args.log) _ _ _ _ _ _ c.ram_fields.result c.ram_fields.ensures c.requires.2 c.ram_turn.ensures)
 
-pub returns-then-kind-gt5 : goal.returns-then-kind-gt5
-returns-then-kind-gt5 c =
-    turn_timed _ _ _ _ _ _ _ c.requires.2 _ c.timed_clock-t.ensures c.timed_turn.ensures
+pub returns-in-TimedTip5 : goal.returns-in-TimedTip5
+returns-in-TimedTip5 c = turn_timed (log_at c.args.log) _ _ _ _ _ _ _ _ c.timed_clock.ensures c.requires.2 c.timed_turn.ensures
 
-pub returns : goal.returns
-returns c =
-    let a = c.args in
-    turn_other (log_of a.revision a.log.now) a.at a.kind a.clock a.counts a.depth a.words.now c.requires.2 c.requires.3 c.if-kind-eq4.false c.if-kind-eq5.false c.if-kind-gt5.false
+pub returns-in-Reset : goal.returns-in-Reset
+returns-in-Reset c = turn_other (log_at c.args.log) _ _ _ _ _ _ (other-kind _ c.in-Reset.is) c.requires.2

@@ -1,48 +1,34 @@
-use Rattle.replay_scan.proofs.Scans.{going_start, scan_ends, scan_off, scan_goes, scan_over}
-use borrow.Author.Tests.{not-true, not-false}
-use Prim.Native.Nat.{◌-◌}
 use native.Mathlib.Omega.{arith}
-use mathlib.Core.Path.{◌≡◌, refl, ◌∙◌}
+use mathlib.Core.Path.{refl, ◌∙◌}
+use Rattle.replay_scan.proofs.Scans.{going_start, scan_end, scan_broken, scan_off, scan_goes, scan_over}
 use Rattle.replay_scan.proofs.scan.scan_log.Goals as goal
 
-pub loop-counts-init : goal.loop-counts-init
-loop-counts-init c =
-    (omega arith, record { low = omega arith; high = omega arith }, refl, record { stacks = omega arith; rams = omega arith }, going_start _ _ _)
+pub loop-frame-init : goal.loop-frame-init
+loop-frame-init c =
+    record { within = omega arith; places = record { low = omega arith; high = omega arith }; room = refl; going = going_start _ _ _ _ c.none-counts.ensures }
 
-pub head_at-h-requires : goal.head_at-h-requires
-head_at-h-requires c =
-    c.loop-counts.invariant.0
+pub returns-in-End : goal.returns-in-End
+returns-in-End c = scan_end c.loop-frame.invariant.going c.loop-frame.invariant.within c.in-End.ensures
 
-pub returns-then-h-lt2 : goal.returns-then-h-lt2
-returns-then-h-lt2 c =
-    scan_ends _ c.loop-counts.invariant.4 c.head_at-h.ensures c.loop-counts.invariant.0 c.if-h-lt2.true
+pub returns-in-Broken : goal.returns-in-Broken
+returns-in-Broken c = scan_broken c.loop-frame.invariant.going c.loop-frame.invariant.within c.in-Broken.ensures
 
-pub record_turn-t-requires : goal.record_turn-t-requires
-record_turn-t-requires c =
-    let h = c.head_at-h in
-    let t : h.result.state ≡ 2 = omega (arith, h.ensures.two) in
-    (omega (arith, h.ensures.fits t, h.ensures.sized t), h.ensures.some t, c.loop-counts.invariant.1, c.loop-counts.invariant.3)
+pub record_turn-requires : goal.record_turn-requires
+record_turn-requires c =
+    let h = c.in-Record.ensures.whole in
+    (omega (arith, h.fits, h.sized), h.some, c.loop-frame.invariant.places)
 
-pub returns-then-not-t : goal.returns-then-not-t
-returns-then-not-t c =
-    scan_off _ c.loop-counts.invariant.4 c.head_at-h.ensures c.loop-counts.invariant.0 c.if-h-lt2.false c.record_turn-t.ensures (not-true _ c.if-not-t.true)
+pub returns-in-Err : goal.returns-in-Err
+returns-in-Err c = scan_off c.loop-frame.invariant.going c.loop-frame.invariant.within _ c.in-Record.ensures c.in-Err.ensures
 
-pub returns-then-t-ne0 : goal.returns-then-t-ne0
-returns-then-t-ne0 c =
-    let h = c.head_at-h in
-    let t : h.result.state ≡ 2 = omega (arith, h.ensures.two) in
-    scan_over _ c.loop-counts.invariant.4 h.ensures c.loop-counts.invariant.0 c.if-h-lt2.false c.record_turn-t.ensures (not-false _ c.if-not-t.false) _ c.first-ram.ensures c.if-t-ne0.true (h.ensures.fits t)
+pub returns-in-None : goal.returns-in-None
+returns-in-None c = scan_over c.loop-frame.invariant.going c.in-Record.ensures c.in-Ok.ensures _ refl c.in-None.is
 
-pub loop-counts-smaller : goal.loop-counts-smaller
-loop-counts-smaller c =
-    let h = c.head_at-h in
-    let t : h.result.state ≡ 2 = omega (arith, h.ensures.two) in
-    omega (arith, h.ensures.fits t)
-
-pub loop-counts-preserved : goal.loop-counts-preserved
-loop-counts-preserved c =
-    let h = c.head_at-h in
-    let r = c.record_turn-t in
-    let t : h.result.state ≡ 2 = omega (arith, h.ensures.two, c.if-h-lt2.false) in
-    let g = not-false _ c.if-not-t.false in
-    (h.ensures.fits t, r.ensures.places, r.ensures.room ∙ c.loop-counts.invariant.2, r.ensures.few g c.if-t-ne0.false, scan_goes _ c.loop-counts.invariant.4 h.ensures c.loop-counts.invariant.0 c.if-h-lt2.false r.ensures g _ c.first-ram.ensures c.if-t-ne0.false)
+pub loop-frame-preserved : goal.loop-frame-preserved
+loop-frame-preserved c =
+    record {
+      within = c.in-Record.ensures.whole.fits;
+      places = c.in-Ok.ensures.places;
+      room = c.in-Ok.ensures.room ∙ c.loop-frame.invariant.room;
+      going = scan_goes c.loop-frame.invariant.going c.in-Record.ensures c.in-Ok.ensures _ refl _ c.in-Some.is;
+    }

@@ -1,4 +1,3 @@
-use Prim.Native.Nat.{◌-◌}
 use native.Mathlib.Omega.{arith}
 use Rattle.replay_table.proofs.MergeLaws.{merges_start, merges-top, merges-left, merges_turn, merges_end}
 use Rattle.replay_table.proofs.merge.merge.Goals as goal

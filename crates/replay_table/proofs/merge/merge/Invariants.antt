@@ -1,4 +1,3 @@
-use Prim.Native.Nat.{◌-◌}
 use Rattle.machine.specs.Ram.{cells}
 use Rattle.replay_table.proofs.MergeLaws.{Merges}
 use Rattle.replay_table.proofs.merge.merge.Given as goal

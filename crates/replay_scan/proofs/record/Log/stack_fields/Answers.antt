@@ -1,0 +1,7 @@
+use borrow.Author.Rules.{rules}
+use mathlib.Core.Path.{◌∙◌}
+use Rattle.replay_scan.proofs.Rows.{stack-row}
+use Rattle.replay_scan.proofs.record.Log.stack_fields.Goals as goal
+
+pub returns : goal.returns
+returns c = record { is = stack-row _ _ _ _ _ _ (c.from.ensures ∙ c.u32_at.ensures.is) c.u64_at.ensures.is c.from-2.ensures c.u64_at-2.ensures.is; clock = search rules; place = search rules; value = search rules }

@@ -1,6 +1,0 @@
-use Rattle.replay_scan.proofs.Rows.{timed-row}
-use Rattle.replay_scan.proofs.record.timed_clock.Goals as goal
-
-pub returns : goal.returns
-returns c =
-    timed-row _ _ _ _ c.requires.2 c.requires.1 c.get4.ensures.is
