@@ -3,46 +3,36 @@
 #![tactic(auto)]
 
 mod entry;
-mod report;
 mod trial;
 
+use entry::Entry;
 use reading::read_full;
 use std::io;
 use std::io::Read;
-use trial::tried;
+use trial::right;
 
-// A list that ends too early, or has a longer file than there is room for, differs.
-fn right(rt: &impl Print, list: &mut impl Read, i: u64, space: &mut [u8]) -> io::Result<bool> {
-    let wanted = entry::read_wanted(list)?;
-    let name = entry::read_name(list)?;
-    let most = entry::least(wanted.length, space.len());
-    let n = read_full(list, &mut space[..most])?;
-    let whole = report::told(
-        rt,
-        i,
-        &name,
-        b"length of the file",
-        wanted.length == n as u64,
-    )?;
-    let same = tried(rt, i, &name, wanted, &space[..most])?;
-    Ok(report::both(whole, same))
-}
+// No file is longer: one byte more than a file may have, and one more, so that a list with a longer one differs.
+const ROOM: usize = 65538;
 
-fn more(differ: u64, same: bool) -> u64 {
-    if same {
-        differ
-    } else {
-        std::num::wrapping_add_u64(differ, 1)
-    }
+// The file behind an entry, as far as the list goes.
+fn file<R: AllocGlobal>(rt: &R, list: &mut impl Read, length: u64) -> io::Result<Vec<u8>> {
+    let most = usize::try_from(length).unwrap_or(ROOM).min(ROOM);
+    let mut file = vec![in rt.alloc(); 0u8; most]?;
+    let n = read_full(list, &mut file)?;
+    file.truncate(n);
+    Ok(file)
 }
 
 fn main(rt: HostRuntime) -> io::Result<()> {
     let mut list = rt.stdin();
-    let mut space = [0u8; 65538];
     let count = entry::next(&mut list)?;
     let mut differ: u64 = 0;
     for i in 0..count {
-        differ = more(differ, right(&rt, &mut list, i, &mut space)?);
+        let entry = Entry::read(rt.alloc(), &mut list)?;
+        let file = file(&rt, &mut list, entry.length)?;
+        if !right(&rt, i, &entry, &file)? {
+            differ = differ.wrapping_add(1);
+        }
     }
     println!(rt; "{count} entries, {differ} differ")
 }

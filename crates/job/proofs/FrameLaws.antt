@@ -1,59 +1,62 @@
 -- Laws of numbers in bytes and of the records' frame. Assumes nothing.
-use mathlib.Core.Path.{◌≡◌, refl, ◌∙◌}
-use mathlib.Core.List.{List, [], ◌∷◌}
+use mathlib.Core.Path.{◌≡◌, refl, ap, ◌∙◌}
+use mathlib.Core.List.{List, [], ◌∷◌, ◌++◌}
 use mathlib.Core.Bool.{Bool, true, false}
 use Prim.Native.Nat.{ℕ, suc, ◌+◌, ◌-◌, ◌*◌, ◌^◌, ◌≤◌, ◌<◌, zero}
 use native.Mathlib.Omega.{arith}
-use native.Mathlib.Nat.{pow-succ', pow-le-pow_right}
+use native.Mathlib.Nat.{pow-succ'}
 use borrow.Author.Tests.{eqb-true, eqb-false, ltb-false, lt-ltb, le-ltb, eq-eqb, ne_eqb}
-use lib.ListN.{length, get_or, take, drop, length-drop}
+use lib.ListN.{length, get_or, take, drop, length-drop, length-append}
 use lib.Dec.{eqb, ltb}
-use lib.Seq.{drop-cons, drop-drop, take-take}
+use lib.Seq.{take-length}
+use Rattle.std.specs.Prelude.{replicate}
+use Rattle.std.specs.Int.{from_le_bytes, w64}
+use Rattle.std.proofs.lemmas.List.{length-replicate, drop-replicate}
 use Rattle.choices.specs.Choice.{cond}
 use Rattle.machine.specs.Bytes.{number_of}
 use Rattle.job.specs.Frame.{size_by, kind_in, whole_by}
 
 -- ---- numbers
 
-pub number-none : (b : List ℕ) (n : ℕ) → 0 ≡ number_of (take (n - n) b)
+-- the zeros that are left of eight
+pub zeros_behind : (n : ℕ) → n ≤ 8 → drop {A = ℕ} n (0 ∷ 0 ∷ 0 ∷ 0 ∷ 0 ∷ 0 ∷ 0 ∷ 0 ∷ []) ≡ replicate (8 - n) 0
+zeros_behind n h = drop-replicate n 8 0
+
+-- zeros behind the bytes change nothing
+number_zeros : (b : List ℕ) (n : ℕ) → number_of (b ++ replicate n 0) ≡ number_of b
 unfolding number_of
-number-none b n = let e : n - n ≡ 0 = omega arith in rw e
-
-pub number_start : (n : ℕ) → 0 < 256 ^ (n - n)
-number_start n = let e : n - n ≡ 0 = omega arith in rw e (omega arith)
-
--- one more byte in front
-pub number_more : (b : List ℕ) (at n i j v x : ℕ) → at + n ≤ length b → i ≤ n → 1 ≤ i → j ≡ i - 1 → x ≡ get_or b (at + j) 0 → v ≡ number_of (take (n - i) (drop (at + i) b)) →
-    x + 256 * v ≡ number_of (take (n - j) (drop (at + j) b))
-unfolding number_of
-number_more b at n i j v x h l m e f g =
-    let s : n - j ≡ suc (n - i) = omega arith in
-    let t : suc (at + j) ≡ at + i = omega arith in
-    let k : at + j < length b = omega arith in
-    rw (s, drop-cons b (at + j) 0 k, t, f, g)
-
--- its size
-pub number_size : (n i j v x : ℕ) → i ≤ n → 1 ≤ i → j ≡ i - 1 → x < 256 → v < 256 ^ (n - i) → x + 256 * v < 256 ^ (n - j)
-number_size n i j v x h l e f g =
-    let s : n - j ≡ suc (n - i) = omega arith in
-    rw (s, pow-succ' 256 (n - i)) (omega arith)
+number_zeros [] zero = refl
+number_zeros [] (suc n) = let e = number_zeros [] n in omega arith
+number_zeros (x ∷ b) n = ap (λ (v : ℕ). x + 256 * v) (number_zeros b n)
 
 -- what eight bytes hold
-pub number-room : (n i v : ℕ) → n ≤ 8 → 1 ≤ i → v < 256 ^ (n - i) → v < 72057594037927936
-number-room n i v h l g = omega (arith, pow-le-pow_right {n = 256} (omega arith) {i = n - i} {j = 7} (omega arith))
+number_eight : (x : List ℕ) → length x ≡ 8 → from_le_bytes w64 x ≡ number_of x
+unfolding number_of
+number_eight [] l = absurd (omega arith)
+number_eight (a ∷ []) l = absurd (omega arith)
+number_eight (a ∷ b ∷ []) l = absurd (omega arith)
+number_eight (a ∷ b ∷ c ∷ []) l = absurd (omega arith)
+number_eight (a ∷ b ∷ c ∷ d ∷ []) l = absurd (omega arith)
+number_eight (a ∷ b ∷ c ∷ d ∷ e ∷ []) l = absurd (omega arith)
+number_eight (a ∷ b ∷ c ∷ d ∷ e ∷ f ∷ []) l = absurd (omega arith)
+number_eight (a ∷ b ∷ c ∷ d ∷ e ∷ f ∷ g ∷ []) l = absurd (omega arith)
+number_eight (a ∷ b ∷ c ∷ d ∷ e ∷ f ∷ g ∷ h ∷ []) l = omega arith
+number_eight (a ∷ b ∷ c ∷ d ∷ e ∷ f ∷ g ∷ h ∷ i ∷ x) l = absurd (omega arith)
 
--- all of them
-pub number-done : (b : List ℕ) (at n i v : ℕ) → i ≡ 0 → v ≡ number_of (take (n - i) (drop (at + i) b)) → v < 256 ^ (n - i) → (v ≡ number_of (take n (drop at b))) × (v < 256 ^ n)
-number-done b at n i v e f g =
-    let s : n - i ≡ n = omega arith in
-    let t : at + i ≡ at = omega arith in
-    (rw (s, t) at f, rw s at g)
+number_small : (b : List ℕ) → ((i : ℕ) → get_or b i 0 < 256) → number_of b < 256 ^ length b
+unfolding number_of
+number_small [] h = omega arith
+number_small (x ∷ b) h = let e = number_small b (λ i. h (suc i)) in let f = h 0 in rw (pow-succ' 256 (length b)) (omega arith)
 
--- ---- the frame, at a place of b
+-- bytes with zeros behind them
+pub number_is : (b x : List ℕ) (r : ℕ) → ((i : ℕ) → get_or b i 0 < 256) → length b ≤ 8 → x ≡ b ++ replicate (8 - length b) 0 → r ≡ from_le_bytes w64 x → (r ≡ number_of b) × (r < 256 ^ length b)
+number_is b x r h l e g =
+    let z = replicate (8 - length b) 0 in
+    let k : length x ≡ 8 = ap length e ∙ length-append b z ∙ rw (length-replicate {A = ℕ} (8 - length b) 0) (omega arith) in
+    let f : r ≡ number_of b = g ∙ number_eight x k ∙ ap number_of e ∙ number_zeros b (8 - length b) in
+    (f, rw f (number_small b h))
 
-pub kind_at : (b : List ℕ) (at : ℕ) → number_of (take 2 (drop (at + 2) b)) ≡ kind_in (drop at b)
-unfolding kind_in
-kind_at b at = rw (drop-drop 2 at b)
+-- ---- the frame
 
 pub whole-none : (b : List ℕ) (n : ℕ) → n ≡ 0 → 0 ≡ whole_by n b
 unfolding whole_by
@@ -63,31 +66,23 @@ pub whole-other : (b : List ℕ) (n : ℕ) → (n ≡ 0 → ⊥) → (number_of 
 unfolding whole_by
 whole-other b n z e = rw (ne_eqb n 0 z, ne_eqb (number_of (take 2 b)) n e)
 
-pub whole-short : (b : List ℕ) (n at : ℕ) → (n ≡ 0 → ⊥) → number_of (take 2 (drop at b)) ≡ n → length b - at < n + 2 → 0 ≡ whole_by n (drop at b)
+pub whole-short : (b : List ℕ) (n : ℕ) → (n ≡ 0 → ⊥) → number_of (take 2 b) ≡ n → length b < n + 2 → 0 ≡ whole_by n b
 unfolding whole_by
-whole-short b n at z e h =
-    let l : length (drop at b) < n + 2 = rw (length-drop at b) h in
-    rw (ne_eqb n 0 z, eq-eqb (number_of (take 2 (drop at b))) n e, lt-ltb (length (drop at b)) (n + 2) l)
+whole-short b n z e h = rw (ne_eqb n 0 z, eq-eqb (number_of (take 2 b)) n e, lt-ltb (length b) (n + 2) h)
 
-pub whole_is : (b : List ℕ) (n at : ℕ) → (n ≡ 0 → ⊥) → number_of (take 2 (drop at b)) ≡ n → n + 2 ≤ length b - at → n + 2 ≡ whole_by n (drop at b)
+pub whole_is : (b : List ℕ) (n : ℕ) → (n ≡ 0 → ⊥) → number_of (take 2 b) ≡ n → n + 2 ≤ length b → whole_by n b ≡ n + 2
 unfolding whole_by
-whole_is b n at z e h =
-    let l : n + 2 ≤ length (drop at b) = rw (length-drop at b) h in
-    rw (ne_eqb n 0 z, eq-eqb (number_of (take 2 (drop at b))) n e, le-ltb (length (drop at b)) (n + 2) l)
+whole_is b n z e h = rw (ne_eqb n 0 z, eq-eqb (number_of (take 2 b)) n e, le-ltb (length b) (n + 2) h)
 
 -- ---- the size of a record by its kind
 
-pub size_short : (lengths : ℕ → ℕ) (b : List ℕ) (at : ℕ) → length b - at < 4 → 0 ≡ size_by lengths (drop at b)
+pub size_short : (lengths : ℕ → ℕ) (b : List ℕ) → length b < 4 → size_by lengths b ≡ 0
 unfolding size_by
-size_short lengths b at h =
-    let l : length (drop at b) < 4 = rw (length-drop at b) h in
-    rw (lt-ltb (length (drop at b)) 4 l)
+size_short lengths b h = rw (lt-ltb (length b) 4 h)
 
-pub size_is : (lengths : ℕ → ℕ) (b : List ℕ) (at k n r : ℕ) → 4 ≤ length b - at → k ≡ kind_in (drop at b) → n ≡ lengths k → r ≡ whole_by n (drop at b) → r ≡ size_by lengths (drop at b)
+pub size_is : (lengths : ℕ → ℕ) (b : List ℕ) (k n : ℕ) → 4 ≤ length b → k ≡ kind_in b → n ≡ lengths k → size_by lengths b ≡ whole_by n b
 unfolding size_by
-size_is lengths b at k n r h e f g =
-    let l : 4 ≤ length (drop at b) = rw (length-drop at b) h in
-    rw (le-ltb (length (drop at b)) 4 l, ← e, ← f) g
+size_is lengths b k n h e f = rw (le-ltb (length b) 4 h, ← e, ← f)
 
 pub size_from : (lengths : ℕ → ℕ) (b : List ℕ) (k : ℕ) → kind_in b ≡ k → 0 < lengths k → number_of (take 2 b) ≡ lengths k → 4 ≤ length b → lengths k + 2 ≤ length b → size_by lengths b ≡ lengths k + 2
 unfolding size_by whole_by
@@ -129,13 +124,7 @@ size_whole lengths b h =
           fits = ltb-false (length b) (k + 2) i;
         }
 
--- ---- parts of parts
+-- ---- what stands behind a record of m bytes
 
-pub part_of : (m j n : ℕ) (l : List ℕ) → j + m ≤ n → take m (drop j (take n l)) ≡ take m (drop j l)
-part_of m zero n l h = take-take m n l (omega arith)
-part_of m (suc j) zero l h = absurd (omega arith)
-part_of m (suc j) (suc n) [] h = refl
-part_of m (suc j) (suc n) (x ∷ l) h = part_of m j n l (omega arith)
-
-pub part_at : (m j n at : ℕ) (l : List ℕ) → j + m ≤ n → take m (drop j (take n (drop at l))) ≡ take m (drop (at + j) l)
-part_at m j n at l h = part_of m j n (drop at l) h ∙ rw (drop-drop j at l)
+pub rest_is : (b : List ℕ) (m n : ℕ) → m ≡ n → take (length b - m) (drop m b) ≡ drop n b
+rest_is b m n e = rw (← length-drop m b, take-length (drop m b), e)

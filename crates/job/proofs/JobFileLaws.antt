@@ -4,23 +4,29 @@ use mathlib.Core.Bool.{Bool, true, false}
 use mathlib.Core.List.{List, [], ◌∷◌, ◌++◌, append_assoc, append-nil}
 use Prim.Native.Nat.{ℕ, zero, suc, ◌+◌, ◌-◌, ◌*◌, ◌≤◌, ◌<◌}
 use native.Mathlib.Omega.{arith}
-use native.Mathlib.Nat.{mul-le-mul_left, add-zero}
+use native.Mathlib.Nat.{add-zero}
 use native.Mathlib.Numerals.{add-one}
 use borrow.Author.Tests.{eqb-true, eqb-false, eq-eqb, ne_eqb}
-use lib.ListN.{length, take, drop, length-drop, length-append, drop_of_length-le, get_or}
-use lib.Seq.{drop-drop, take_at}
-use lib.Dec.{eqb}
-use Rattle.choices.specs.Choice.{cond}
+use lib.ListN.{length, take, drop, length-drop, length-append, drop_of_length-le, get_or, set}
+use lib.Seq.{drop-drop, take-length, length-take-le}
+use lib.Dec.{eqb, ltb}
+use Rattle.choices.specs.Choice.{cond, first_of, above_of, differ_of}
 use Rattle.choices.proofs.Choice.{first_zero, first-nil, above-not, above-nil, differ_not, differ_nil}
-use Rattle.machine_log.proofs.Logged.{logged-front, logged_none}
+use Rattle.machine_log.proofs.Logged.{logged-front}
 use Rattle.machine.specs.Bytes.{number_of}
 use Rattle.job.specs.Frame.{kind_in, size_by}
 use Rattle.job.specs.Listing.{Put}
-use Rattle.job.specs.JobFile.{length_in, piece_kind, piece_size, Piece, piece_in, pieces_in, pieces_of, count_of, numbers_in, column, fault_of, Job, good_job, broken_job, job_of, Inside, Wanted, Filled}
+use Rattle.job.specs.JobFile.{length_in, piece_kind, piece_size, Piece, piece_in, pieces_in, pieces_of, count_of, numbers_in, column, fault_of, Job, good_job, broken_job, job_of, Wanted, Filled}
+use Rattle.std.specs.Prelude.{None, Some, Ok, Err, Result, IsErr, MatchResult}
+use borrow.Author.Rules.{rules}
 use Rattle.job.specs.declared.job_file.JobFile.{JobFile}
-use Rattle.job.specs.JobFileView.{Lent, broken_file, Says}
-use Rattle.job.proofs.FrameLaws.{size_whole, part_of}
-use Rattle.job.proofs.ListingLaws.{put-none, put-more, put_as}
+use Rattle.job.specs.declared.job_file.BrokenFile.{BrokenFile}
+use Rattle.std.specs.declared.option.Option.{Option}
+use Rattle.std.specs.Option.{unwrap_or}
+use Rattle.job.specs.declared.job_file.Piece.{Piece as FilePiece}
+use Rattle.job.specs.JobFileView.{piece_number, IsWholePiece, IsPiece, HasColumn, Lent, Breaks}
+use Rattle.job.proofs.FrameLaws.{size_whole}
+use Rattle.job.proofs.ListingLaws.{put-none, put-at, put-more, put_as}
 
 -- ---- lengths
 
@@ -33,24 +39,15 @@ length-unknown k a b c d e f g = rw (ne_eqb k 11 a, ne_eqb k 12 b, ne_eqb k 13 c
 above : (n : ℕ) → (n ≡ 0 → ⊥) → 0 < n
 above n h = omega arith
 
-pub piece-none : (b : List ℕ) (at s : ℕ) → s ≡ size_by length_in (drop at b) → s ≡ 0 → (0 ≡ piece_kind (drop at b)) × (length b - at ≡ piece_size (drop at b))
+pub piece-none : (b : List ℕ) → size_by length_in b ≡ 0 → (0 ≡ piece_kind b) × (b ≡ take (piece_size b) b) × (length b ≡ piece_size b)
 unfolding piece_kind piece_size
-piece-none b at s e z =
-    let t = eq-eqb (size_by length_in (drop at b)) 0 (sym e ∙ z) in
-    (rw t, rw t (sym (length-drop at b)))
+piece-none b z = let t = eq-eqb (size_by length_in b) 0 z in (rw t, rw t (sym (take-length b)), rw t)
 
-pub piece_some : (b : List ℕ) (at s k : ℕ) → s ≡ size_by length_in (drop at b) → (s ≡ 0 → ⊥) → k ≡ kind_in (drop at b) → (k ≡ piece_kind (drop at b)) × (s ≡ piece_size (drop at b))
+pub piece_some : (b : List ℕ) → 0 < size_by length_in b → (kind_in b ≡ piece_kind b) × (size_by length_in b ≡ piece_size b)
 unfolding piece_kind piece_size
-piece_some b at s k e z f =
-    let t = ne_eqb (size_by length_in (drop at b)) 0 (λ q. z (e ∙ q)) in
-    (rw t f, rw t e)
+piece_some b h = let t = ne_eqb (size_by length_in b) 0 (λ q. omega arith) in (rw t, rw t)
 
-pub piece_long : (b : List ℕ) (at s : ℕ) → s ≡ size_by length_in (drop at b) → (s ≡ 0 → ⊥) → at + 4 ≤ length b
-piece_long b at s e z =
-    let w = size_whole length_in (drop at b) (above _ (λ q. z (e ∙ q))) in
-    omega (arith, w.long, length-drop at b)
-
-size_above : (b : List ℕ) → 0 < length b → 0 < piece_size b
+pub size_above : (b : List ℕ) → 0 < length b → 0 < piece_size b
 unfolding piece_size
 size_above b h = go (eqb (size_by length_in b) 0) refl
   where
@@ -58,7 +55,7 @@ size_above b h = go (eqb (size_by length_in b) 0) refl
     go true e = h
     go false e = above _ (eqb-false (size_by length_in b) 0 e)
 
-size_fits : (b : List ℕ) → piece_size b ≤ length b
+pub size_fits : (b : List ℕ) → piece_size b ≤ length b
 unfolding piece_size
 size_fits b = go (eqb (size_by length_in b) 0) refl
   where
@@ -74,6 +71,11 @@ kind_size b k e z = go (eqb (size_by length_in b) 0) refl e
     go : (t : Bool) → eqb (size_by length_in b) 0 ≡ t → cond t 0 (kind_in b) ≡ k → cond t (length b) (size_by length_in b) ≡ length_in k + 2
     go true f g = absurd (z (sym g))
     go false f g = let w = size_whole length_in b (above _ (eqb-false (size_by length_in b) 0 f)) in rw (← g) w.size
+
+-- what the code finds at the start of b
+pub piece_is : (b : List ℕ) (o : Option FilePiece) (d r : FilePiece) → IsWholePiece b o → r ≡ unwrap_or o d → piece_number d.kind ≡ 0 → d.bytes.now ≡ b → IsPiece b r
+piece_is b None d r h e f g = let p = piece-none b h in rw e (f ∙ p.0, g ∙ p.1, ap length g ∙ p.2)
+piece_is b (Some q) d r h e f g = let p = piece_some b h.0 in rw e (h.1 ∙ p.0, h.2 ∙ ap (λ (n : ℕ). take n b) p.1, h.3 ∙ p.1)
 
 -- ---- all records, one at a time
 
@@ -100,41 +102,21 @@ pieces_turn (x ∷ b) h =
     let l = length-drop n (x ∷ b) in
     ap (λ (qs : List Piece). piece_in (x ∷ b) ∷ qs) (pieces_enough (length b) (length (drop n (x ∷ b))) (drop n (x ∷ b)) (omega arith) (omega arith))
 
--- at place at of b, where the record takes s bytes
-module _ (b : List ℕ) (at s : ℕ) (e : s ≡ piece_size (drop at b)) (h : at < length b) where
-  pub place-next : (0 < s) × (at + s ≤ length b)
-  place-next =
-      let l = length-drop at b in
-      (omega (arith, size_above (drop at b) (omega arith)), omega (arith, size_fits (drop at b)))
-
-  pub place_turn : pieces_of (drop at b) ≡ piece_in (drop at b) ∷ pieces_of (drop (at + s) b)
-  place_turn =
-      let l = length-drop at b in
-      pieces_turn (drop at b) (omega arith) ∙ rw (← e, drop-drop s at b)
-
-pub place_end : (b : List ℕ) (at : ℕ) → length b ≤ at → pieces_of (drop at b) ≡ []
-unfolding pieces_of pieces_in
-place_end b at h = rw (drop_of_length-le b {i = at} h)
-
 -- ---- counting
 
-pub count-more : (b : List ℕ) (at s k j n d c : ℕ) → s ≡ piece_size (drop at b) → at < length b → j ≡ piece_kind (drop at b) → d ≡ cond (eqb j k) 1 0 →
-    n + count_of k (pieces_of (drop at b)) ≡ c → n + d + count_of k (pieces_of (drop (at + s) b)) ≡ c
+-- the record at the start of b, of the number q, is counted, and c is the rest
+pub count-step : (b c : List ℕ) (q k n all : ℕ) (t : Bool) → 0 < length b → q ≡ piece_kind b → eqb q k ≡ t → c ≡ drop (piece_size b) b → n + count_of k (pieces_of b) ≡ all → n + cond t 1 0 + count_of k (pieces_of c) ≡ all
 unfolding count_of piece_in
-count-more b at s k j n d c e h f g i =
-    let t : count_of k (pieces_of (drop at b)) ≡ d + count_of k (pieces_of (drop (at + s) b)) = rw (place_turn b at s e h, g, f) in
+count-step b c q k n all t h e f g i =
+    let r : count_of k (pieces_of b) ≡ cond t 1 0 + count_of k (pieces_of c) = rw (pieces_turn b h, g, ← e, f) in
     omega arith
 
-pub count-few : (j k d : ℕ) → d ≡ cond (eqb j k) 1 0 → d ≤ 1
-count-few j k d e = go (eqb j k) e
-  where
-    go : (t : Bool) → d ≡ cond t 1 0 → d ≤ 1
-    go true e = omega arith
-    go false e = omega arith
+pub shorter : (b c : List ℕ) → 0 < length b → c ≡ drop (piece_size b) b → length c < length b
+shorter b c h e = omega (arith, ap length e, length-drop (piece_size b) b, size_above b h)
 
-pub count-all : (b : List ℕ) (at k n c : ℕ) → length b ≤ at → n + count_of k (pieces_of (drop at b)) ≡ c → n ≡ c
-unfolding count_of
-count-all b at k n c h e = let z : count_of k (pieces_of (drop at b)) ≡ 0 = rw (place_end b at h) in omega arith
+pub count-all : (b : List ℕ) (k n all : ℕ) → b ≡ [] → n + count_of k (pieces_of b) ≡ all → n ≡ all
+unfolding count_of pieces_of pieces_in
+count-all b k n all e i = let z : count_of k (pieces_of b) ≡ 0 = rw e in omega arith
 
 -- ---- numbers
 
@@ -143,31 +125,34 @@ unfolding numbers_in
 numbers_length n zero b = refl
 numbers_length n (suc m) b = length-append (numbers_in n m b) _ ∙ rw (numbers_length n m b) (add-one m)
 
-pub put_start : (b : List ℕ) (n at z : ℕ) {o : List ℕ} {to : ℕ} → z ≡ 0 → Put o o to (numbers_in n z (drop at b)) z (to + z)
+pub put_start : (b : List ℕ) (n : ℕ) {o : List ℕ} {to : ℕ} → Put o o to (numbers_in n 0 b) 0 (to + 0)
 unfolding numbers_in
-put_start b n at z {o} {to} e = rw (e, add-zero to) (put-none o to)
+put_start b n {o} {to} = rw (add-zero to) (put-none o to)
+
+-- of a record of another kind none is put
+pub put_no : {o : List ℕ} {to : ℕ} (x : List ℕ) (n m : ℕ) (t : Bool) → t ≡ false → Put o o to (numbers_in n (cond t m 0) x) m to
+unfolding numbers_in
+put_no {o} {to} x n m t e = rw e (put_as (put-none o to) refl (omega arith))
 
 -- one more
-pub numbers_more : (n i : ℕ) (b : List ℕ) (at v : ℕ) → v ≡ number_of (take n (drop (at + n * i) b)) → numbers_in n i (drop at b) ++ (v ∷ []) ≡ numbers_in n (i + 1) (drop at b)
+pub numbers_more : (n i : ℕ) (b : List ℕ) (v : ℕ) → v ≡ number_of (take n (drop (n * i) b)) → numbers_in n i b ++ (v ∷ []) ≡ numbers_in n (i + 1) b
 unfolding numbers_in
-numbers_more n i b at v e = rw (add-one i, drop-drop (n * i) at b, e)
+numbers_more n i b v e = rw (add-one i, e)
 
-pub inside-at : (b : List ℕ) (at n m i : ℕ) → Inside b at n m → i < m → at + n * i + n ≤ length b
-inside-at b at n m i h l =
-    let t : n * (i + 1) ≤ n * m = mul-le-mul_left n (omega arith) in
-    omega (arith, h.inside (omega arith))
+pub put-next : {o o1 : List ℕ} {to : ℕ} (n i v : ℕ) (x : List ℕ) → to ≤ length o → to + i < length o1 → Put o o1 to (numbers_in n i x) i (to + i) → v ≡ number_of (take (n * i + n - n * i) (drop (n * i) x)) →
+    Put o (set o1 (to + i) v) to (numbers_in n (i + 1) x) (i + 1) (to + (i + 1))
+put-next {o} {o1} {to} n i v x h l p e =
+    let f : n * i + n - n * i ≡ n = omega arith in
+    put-more h p (put-at o1 (to + i) v (to + (i + 1)) l (omega arith)) (numbers_more n i x v (rw f at e)) refl
+
+-- all of them, where the fields of a record of the column's kind begin
+pub put_all_numbers : {o o1 : List ℕ} {to : ℕ} (n i m j : ℕ) (b : List ℕ) (t : Bool) → t ≡ true → j ≡ m → Put o o1 to (numbers_in n j (take (length b - (4 + i)) (drop (4 + i) b))) j (to + j) →
+    Put o o1 to (numbers_in n (cond t m 0) (drop i (drop 4 b))) m (to + m)
+put_all_numbers {o} {o1} {to} n i m j b t e f p =
+    let g : take (length b - (4 + i)) (drop (4 + i) b) ≡ drop i (drop 4 b) = rw (← length-drop (4 + i) b, take-length (drop (4 + i) b)) (sym (drop-drop i 4 b)) in
+    rw e (rw (g, f) at p)
 
 -- ---- columns
-
--- numbers in a record's fields, where the code reads them
-numbers_part : (n m i z : ℕ) (s : List ℕ) → 4 + i + n * m ≤ z → numbers_in n m (drop i (drop 4 (take z s))) ≡ numbers_in n m (drop (4 + i) s)
-unfolding numbers_in
-numbers_part n zero i z s h = refl
-numbers_part n (suc m) i z s h =
-    let k : 4 + i + n * m + n ≤ z = omega arith in
-    let e : drop (n * m) (drop i (drop 4 (take z s))) ≡ drop (4 + i + n * m) (take z s) = rw (drop-drop i 4 (take z s), drop-drop (n * m) (4 + i) (take z s)) in
-    let f : drop (n * m) (drop (4 + i) s) ≡ drop (4 + i + n * m) s = drop-drop (n * m) (4 + i) s in
-    rw (numbers_part n m i z s (omega arith), e, f, part_of n (4 + i + n * m) z s k)
 
 known : (k : ℕ) → 2 ≤ length_in k → k ≡ 0 → ⊥
 unfolding length_in
@@ -186,65 +171,55 @@ length-few k =
     (cond-few (eqb k 14) 10 _ 42 (omega arith)
     (cond-few (eqb k 15) 42 _ 42 (omega arith) (cond-few (eqb k 16) 18 _ 42 (omega arith) (cond-few (eqb k 17) 6 0 42 (omega arith) (omega arith)))))))
 
--- the column's numbers of the records in front of place at are written
-pub record Columns (b o o2 : List ℕ) (k i n m at to : ℕ) : Type 0 where
+-- the column's numbers of the records in front of the rest c of the file b are written
+pub record Columns (b c o o2 : List ℕ) (k i n m to : ℕ) : Type 0 where
   pub words : List ℕ
   pub put : Put o o2 0 words to to
-  pub rest : words ++ column k i n m (pieces_of (drop at b)) ≡ column k i n m (pieces_of b)
+  pub rest : words ++ column k i n m (pieces_of c) ≡ column k i n m (pieces_of b)
 
-pub columns-none : (b o : List ℕ) (k i n m : ℕ) → Columns b o o k i n m 0 0
+pub columns-none : (b o : List ℕ) (k i n m : ℕ) → Columns b b o o k i n m 0
 columns-none b o k i n m = record { words = []; put = put-none o 0; rest = refl }
 
-pub columns-all : {b o o2 : List ℕ} {k i n m at to : ℕ} → length b ≤ at → Columns b o o2 k i n m at to → Filled o o2 (column k i n m (pieces_of b)) to
-unfolding column
-columns-all {b} {o} {o2} {k} {i} {n} {m} {at} {to} h w =
-    let e : w.words ≡ column k i n m (pieces_of b) =
-    sym (append-nil w.words) ∙ ap (λ (qs : List Piece). w.words ++ column k i n m qs) (sym (place_end b at h)) ∙ w.rest in
+pub columns-all : {b c o o2 : List ℕ} {k i n m to : ℕ} → c ≡ [] → Columns b c o o2 k i n m to → Filled o o2 (column k i n m (pieces_of b)) to
+unfolding column pieces_of pieces_in
+columns-all {b} {c} {o} {o2} {k} {i} {n} {m} {to} h w =
+    let e : w.words ≡ column k i n m (pieces_of b) = sym (append-nil w.words) ∙ ap (λ (x : List ℕ). w.words ++ column k i n m (pieces_of x)) (sym h) ∙ w.rest in
     record { is = rw e at w.put.is; count = rw (← e) (omega (arith, w.put.end)) }
 
--- the record at place at, of q's kind and s bytes; d is how many numbers are wanted of it
-module _ {b o : List ℕ} {k i n m at q s d : ℕ} (wanted : Wanted b o k i n m) (is : q ≡ piece_kind (drop at b)) (size : s ≡ piece_size (drop at b)) (many : d ≡ cond (eqb q k) m 0) (here : at < length b) where
-  pub column-inside : Inside b (at + 4 + i) n d
-  column-inside = record { narrow = wanted.narrow; inside = go (eqb q k) refl many }
-    where
-      go : (t : Bool) → eqb q k ≡ t → d ≡ cond t m 0 → 0 < d → at + 4 + i + n * d ≤ length b
-      go true e f g =
-          let z = kind_size (drop at b) k (sym is ∙ eqb-true q k e) (known k (omega (arith, wanted.within))) in
-          rw f (omega (arith, wanted.within, size_fits (drop at b), length-drop at b))
-      go false e f g = absurd (omega arith)
+-- the numbers of the record at the start of c
+abbrev pub own_numbers : List ℕ → ℕ → ℕ → ℕ → ℕ → List ℕ
+own_numbers c k i n m = numbers_in n (cond (eqb (piece_kind c) k) m 0) (drop i (drop 4 (take (piece_size c) c)))
 
-  -- what is read is what the column has of it
-  column_numbers : numbers_in n d (drop (at + 4 + i) b) ≡ numbers_in n (cond (eqb (piece_kind (drop at b)) k) m 0) (drop i (piece_in (drop at b)).fields)
-  unfolding numbers_in piece_in
-  column_numbers = rw (← is, many) (go (eqb q k) refl)
-    where
-      go : (t : Bool) → eqb q k ≡ t → numbers_in n (cond t m 0) (drop (at + 4 + i) b) ≡ numbers_in n (cond t m 0) (drop i (drop 4 (take (piece_size (drop at b)) (drop at b))))
-      go true e =
-          let z = kind_size (drop at b) k (sym is ∙ eqb-true q k e) (known k (omega (arith, wanted.within))) in
-          let f : at + (4 + i) ≡ at + 4 + i = omega arith in
-          sym (numbers_part n m i (piece_size (drop at b)) (drop at b) (omega (arith, wanted.within)) ∙ rw (drop-drop (4 + i) at b, f))
-      go false e = refl
-
-  column_turn : column k i n m (pieces_of (drop at b)) ≡ numbers_in n d (drop (at + 4 + i) b) ++ column k i n m (pieces_of (drop (at + s) b))
+module _ {b o : List ℕ} (c : List ℕ) {k i n m : ℕ} (wanted : Wanted b o k i n m) (here : 0 < length c) where
+  column_turn : column k i n m (pieces_of c) ≡ own_numbers c k i n m ++ column k i n m (pieces_of (drop (piece_size c) c))
   unfolding column piece_in
-  column_turn = rw (place_turn b at s size here) (ap (λ (u : List ℕ). u ++ column k i n m (pieces_of (drop (at + s) b))) (sym column_numbers))
+  column_turn = rw (pieces_turn c here)
 
-  pub column-room : {o2 : List ℕ} {to : ℕ} → Columns b o o2 k i n m at to → to + d ≤ length o
-  column-room {o2} {to} w =
-      let e = ap length w.rest in
-      let f = length-append w.words (column k i n m (pieces_of (drop at b))) in
-      let g = ap length column_turn in
-      let h = length-append (numbers_in n d (drop (at + 4 + i) b)) (column k i n m (pieces_of (drop (at + s) b))) in
-      omega (arith, w.put.end, wanted.room, numbers_length n d (drop (at + 4 + i) b))
+  -- its fields are as long as the column asks, and its numbers have room
+  pub has-column : {o1 : List ℕ} {to : ℕ} → length o1 ≡ length o → Columns b c o o1 k i n m to → HasColumn (take (piece_size c) c) (piece_kind c) o1 k i n m to
+  has-column {o1} {to} l w =
+      record {
+        narrow = wanted.narrow;
+        small = omega (arith, wanted.within, length-few k);
+        inside = λ e. let z = kind_size c k e (known k (omega (arith, wanted.within))) in omega (arith, wanted.within, length-take-le (piece_size c) c (size_fits c));
+        room = λ e.
+            let own = own_numbers c k i n m in
+            let f = ap length w.rest in
+            let g = length-append w.words (column k i n m (pieces_of c)) in
+            let h = ap length column_turn in
+            let j = length-append own (column k i n m (pieces_of (drop (piece_size c) c))) in
+            let q : length own ≡ m = rw (eq-eqb (piece_kind c) k e) (numbers_length n m _) in
+            omega (arith, w.put.end, wanted.room);
+      }
 
-  pub columns-more : {o1 o2 : List ℕ} {to next : ℕ} → Columns b o o1 k i n m at to → Put o1 o2 to (numbers_in n d (drop (at + 4 + i) b)) d next → Columns b o o2 k i n m (at + s) next
+  pub columns-more : {o1 o2 : List ℕ} {to next : ℕ} → Columns b c o o1 k i n m to → Put o1 o2 to (own_numbers c k i n m) m next → Columns b (drop (piece_size c) c) o o2 k i n m next
   columns-more {o1} {o2} {to} {next} w p =
-      let ns = numbers_in n d (drop (at + 4 + i) b) in
+      let own = own_numbers c k i n m in
       let x = put-more (omega arith) w.put p refl refl in
       record {
-        words = w.words ++ ns;
+        words = w.words ++ own;
         put = put_as x refl (omega (arith, x.end));
-        rest = append_assoc w.words ns _ ∙ ap (λ (u : List ℕ). w.words ++ u) (sym column_turn) ∙ w.rest;
+        rest = append_assoc w.words own _ ∙ ap (λ (u : List ℕ). w.words ++ u) (sym column_turn) ∙ w.rest;
       }
 
 -- ---- a file without a fault
@@ -315,12 +290,45 @@ fault_sound b s =
     ∙ first_zero _ _ (above-not _ 1 50 s.budgets)
     ∙ differ_not _ 0 50 s.whole
 
+data Fifty : ℕ → Type 0 where
+  no : Fifty 0
+  yes : Fifty 50
+
+cond-fifty : (t : Bool) (a b : ℕ) → Fifty a → Fifty b → Fifty (cond t a b)
+cond-fifty true a b h k = h
+cond-fifty false a b h k = k
+
+first-fifty : (a b : ℕ) → Fifty a → Fifty b → Fifty (first_of a b)
+unfolding first_of
+first-fifty a b h k = cond-fifty (eqb a 0) b a k h
+
+above-fifty : (a b : ℕ) → Fifty (above_of a b 50)
+unfolding above_of
+above-fifty a b = cond-fifty (ltb b a) 50 0 yes no
+
+differ_fifty : (a b : ℕ) → Fifty (differ_of a b 50)
+unfolding differ_of
+differ_fifty a b = cond-fifty (eqb a b) 0 50 no yes
+
+fault_fifty : (b : List ℕ) → Fifty (fault_of b)
+unfolding fault_of
+fault_fifty b =
+    first-fifty _ _ (above-fifty _ _)
+    (first-fifty _ _ (differ_fifty _ _)
+    (first-fifty _ _ (differ_fifty _ _)
+    (first-fifty _ _ (above-fifty _ _)
+    (first-fifty _ _ (above-fifty _ _) (differ_fifty _ _)))))
+
+-- a file that is not sound gets 50
+pub fault_other : (b : List ℕ) → (Sound b → ⊥) → fault_of b ≡ 50
+fault_other b n = go (fault_of b) (fault_fifty b) refl
+  where
+    go : (f : ℕ) → Fifty f → fault_of b ≡ f → f ≡ 50
+    go f no e = absurd (n (fault_none b e))
+    go f yes e = refl
+
 pub wanted : (b o : List ℕ) (k i n m : ℕ) → fault_of b ≡ 0 → n ≤ 8 → i + n * m + 2 ≤ length_in k → m * count_of k (pieces_of b) ≤ length o → Wanted b o k i n m
 wanted b o k i n m h l w r = record { short = (fault_none b h).short; narrow = l; within = w; room = rw (column-length k i n m (pieces_of b)) r }
-
--- the words that are counted are those of the column
-pub filled-front : {b b2 ws : List ℕ} {n : ℕ} → Filled b b2 ws n → take n b2 ≡ ws
-filled-front {b} {b2} {ws} {n} f = ap (take n) (f.is ∙ logged-front b ws) ∙ take_at ws _ n (sym f.count)
 
 -- all of a slice is filled
 pub filled-all : (b b2 ws : List ℕ) (n : ℕ) → Filled b b2 ws n → length b ≤ length ws → b2 ≡ ws
@@ -392,19 +400,7 @@ pub job-broken : (b : List ℕ) (n : ℕ) → n ≡ fault_of b → (n ≡ 0 → 
 unfolding job_of
 job-broken b n e z = rw (← e, ne_eqb n 0 z)
 
-pub says-broken : {j : Job} {n : ℕ} {r : JobFile} {l : Lent} → j ≡ broken_job n → r ≡ broken_file n → Says j r l l
-says-broken {j} {n} {r} {l} e f = rw (e, f) (record {
-  number = refl;
-  digest = refl;
-  opcodes = nothing l.opcodes;
-  arguments = nothing l.arguments;
-  public = nothing l.public;
-  secret = nothing l.secret;
-  digests = nothing l.digests;
-  addresses = nothing l.addresses;
-  values = nothing l.values;
-  budget = refl;
-})
-  where
-    nothing : (b : List ℕ) → Filled b b [] 0
-    nothing b = record { is = logged_none b 0; count = refl }
+-- a broken file leaves the slices as they were
+pub breaks : (b : List ℕ) (l : Lent) (P : JobFile → Type 0) → fault_of b ≡ 50 → (r : Result JobFile BrokenFile) → IsErr r → MatchResult r P (λ _. Breaks (job_of b) l l)
+breaks b l P e (Ok x) h = absurd (search rules)
+breaks b l P e (Err x) h = record { number = ap (λ (j : Job). j.number) (job-broken b 50 (sym e) (λ z. omega arith)); same = refl }

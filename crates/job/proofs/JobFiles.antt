@@ -1,51 +1,19 @@
 -- What a job file is: sound, or broken with 50; and a file that is written record by record is read back. Assumes nothing.
 use mathlib.Core.Path.{◌≡◌, refl, sym, ap, ◌∙◌}
-use mathlib.Core.Bool.{Bool, true, false}
 use mathlib.Core.List.{List, [], ◌∷◌, ◌++◌}
 use Prim.Native.Nat.{ℕ, ◌+◌, ◌<◌}
 use native.Mathlib.Omega.{arith}
 use borrow.Author.Tests.{ne_eqb}
 use lib.ListN.{length, drop, length-append}
 use lib.Seq.{take_at, drop_at}
-use lib.Dec.{eqb, ltb}
-use Rattle.choices.specs.Choice.{cond, first_of, above_of, differ_of}
 use Rattle.machine.specs.Bytes.{bytes_of}
 use Rattle.machine.proofs.Bytes.{number_back}
 use Rattle.job.specs.Frame.{kind_in, size_by}
-use Rattle.job.specs.JobFile.{length_in, piece_kind, piece_size, Piece, piece_in, pieces_in, pieces_of, file_record, file_bytes, count_of, fault_of, good_job, job_of}
+use Rattle.job.specs.JobFile.{length_in, piece_kind, piece_size, Piece, piece_in, pieces_in, pieces_of, file_record, file_bytes, count_of, good_job, job_of}
 use Rattle.job.proofs.FrameLaws.{size_from}
-use Rattle.job.proofs.JobFileLaws.{length-few, pieces_turn, Sound, fault_none, fault_sound, job_good, job-broken}
+use Rattle.job.proofs.JobFileLaws.{length-few, pieces_turn, Sound, fault_sound, fault_other, job_good, job-broken}
 
 -- ---- sound, or broken
-
-data Fifty : ℕ → Type 0 where
-  no : Fifty 0
-  yes : Fifty 50
-
-cond-fifty : (t : Bool) (a b : ℕ) → Fifty a → Fifty b → Fifty (cond t a b)
-cond-fifty true a b h k = h
-cond-fifty false a b h k = k
-
-first-fifty : (a b : ℕ) → Fifty a → Fifty b → Fifty (first_of a b)
-unfolding first_of
-first-fifty a b h k = cond-fifty (eqb a 0) b a k h
-
-above-fifty : (a b : ℕ) → Fifty (above_of a b 50)
-unfolding above_of
-above-fifty a b = cond-fifty (ltb b a) 50 0 yes no
-
-differ_fifty : (a b : ℕ) → Fifty (differ_of a b 50)
-unfolding differ_of
-differ_fifty a b = cond-fifty (eqb a b) 0 50 no yes
-
-fault_fifty : (b : List ℕ) → Fifty (fault_of b)
-unfolding fault_of
-fault_fifty b =
-    first-fifty _ _ (above-fifty _ _)
-    (first-fifty _ _ (differ_fifty _ _)
-    (first-fifty _ _ (differ_fifty _ _)
-    (first-fifty _ _ (above-fifty _ _)
-    (first-fifty _ _ (above-fifty _ _) (differ_fifty _ _)))))
 
 -- a sound file says its job
 pub sound-job : (b : List ℕ) → Sound b → job_of b ≡ good_job (pieces_of b)
@@ -53,11 +21,7 @@ sound-job b s = job_good b (fault_sound b s)
 
 -- any other gets 50
 pub other-job : (b : List ℕ) → (Sound b → ⊥) → (job_of b).number ≡ 50
-other-job b n = go (fault_of b) (fault_fifty b) refl
-  where
-    go : (f : ℕ) → Fifty f → fault_of b ≡ f → (job_of b).number ≡ 50
-    go f no e = absurd (n (fault_none b e))
-    go f yes e = ap (λ j. j.number) (job-broken b 50 (sym e) (λ z. omega arith))
+other-job b n = let e = fault_other b n in ap (λ j. j.number) (job-broken b 50 (sym e) (λ z. omega arith))
 
 -- more than 65,536 bytes, and more than 1,024 slots
 pub too_long_lem : (b : List ℕ) → 65536 < length b → (job_of b).number ≡ 50

@@ -2,21 +2,19 @@
 use mathlib.Core.Path.{◌≡◌, refl, sym, ap, ◌∙◌}
 use mathlib.Core.Bool.{Bool, true, false}
 use mathlib.Core.List.{List, [], ◌∷◌, ◌++◌, append_assoc, append-nil}
-use Prim.Native.Nat.{ℕ, zero, suc, ◌+◌, ◌*◌, ◌≤◌, ◌<◌}
+use Prim.Native.Nat.{ℕ, zero, suc, ◌+◌, ◌≤◌, ◌<◌}
 use native.Mathlib.Omega.{arith}
 use borrow.Author.Tests.{eqb-true, ltb-false, le-ltb, eq-eqb, ne_eqb}
 use lib.ListN.{length, get_or, take, drop, length-drop}
-use lib.Seq.{drop-drop, get_or-take, get_or-drop}
 use lib.Dec.{eqb, ltb}
 use Rattle.choices.specs.Choice.{cond}
 use Rattle.machine.specs.Bytes.{number_of}
 use Rattle.machine.specs.Records.{Record, other, timed, ram, length_of, record_of, log_bytes, Parsed, ended, broken, found, framed, parse}
 use Rattle.machine.proofs.Records.{Sized, Shorter, at_record, parse-shorter, parse-record, many_bytes}
 use Rattle.job.specs.Frame.{kind_in, whole_by, size_by}
-use Rattle.job.specs.Listing.{stack_line, Put}
+use Rattle.job.specs.Listing.{direction_text, stack_line}
 use Rattle.job.specs.LogLines.{line_of, lines_of, on_record, lines_in, log_lines}
-use Rattle.job.proofs.FrameLaws.{Whole, size_whole, part_at}
-use Rattle.job.proofs.ListingLaws.{put_as, put-more, put-none}
+use Rattle.job.proofs.FrameLaws.{Whole, size_whole}
 
 -- a whole record is parsed
 parse-whole : (b : List ℕ) → Whole (length_of 1) b → parse 1 b ≡ found (record_of (kind_in b) (take (size_by (length_of 1) b) b)) (drop (size_by (length_of 1) b) b)
@@ -87,12 +85,10 @@ lines_turn (x ∷ b) h =
 -- ---- the code
 
 -- the fields of a record of kind 4, where the code reads them
-pub stack-line-is : (b : List ℕ) (at t q d v : ℕ) → t ≡ number_of (take 4 (drop (at + 4) b)) → q ≡ number_of (take 8 (drop (at + 8) b)) → d ≡ get_or b (at + 16) 0 → v ≡ number_of (take 8 (drop (at + 17) b)) →
-    stack_line t q d v ≡ line_of (record_of 4 (take 25 (drop at b)))
-unfolding line_of record_of
-stack-line-is b at t q d v e f g h =
-    let i : get_or (take 25 (drop at b)) 16 0 ≡ get_or b (at + 16) 0 = get_or-take 25 (drop at b) 16 0 (omega arith) ∙ get_or-drop at b 16 0 in
-    rw (part_at 4 4 25 at b (omega arith), part_at 8 8 25 at b (omega arith), part_at 8 17 25 at b (omega arith), i, e, f, g, h)
+pub stack-line-is : (b : List ℕ) (t q d v : ℕ) → t ≡ number_of (take 4 (drop 4 b)) → q ≡ number_of (take 8 (drop 8 b)) → direction_text d ≡ direction_text (get_or b 16 0) → v ≡ number_of (take 8 (drop 17 b)) →
+    stack_line t q d v ≡ line_of (record_of 4 b)
+unfolding line_of record_of stack_line
+stack-line-is b t q d v e f g h = rw (e, f, g, h)
 
 -- a record of another kind gives none
 pub line-none : (k : ℕ) (b : List ℕ) → (k ≡ 4 → ⊥) → [] ≡ line_of (record_of k b)
@@ -104,45 +100,24 @@ line-none k b h = rw (ne_eqb k 4 h) (go (eqb k 5) (ltb 5 k))
     go false true = refl
     go false false = refl
 
--- what a whole record at a place of the log says of the place
-pub whole-place : (b : List ℕ) (at n : ℕ) → at ≤ length b → 0 < n → n ≡ size_by (length_of 1) (drop at b) → (at + 4 ≤ length b) × (n ≡ length_of 1 (kind_in (drop at b)) + 2) × (at + n ≤ length b)
-whole-place b at n h k e =
-    let w = size_whole (length_of 1) (drop at b) (rw (← e) k) in
-    let l = length-drop at b in
-    (omega (arith, w.long), omega (arith, w.size), omega (arith, w.fits, w.size))
+-- what a whole record at the start of a log says of the log
+pub whole_start : (b : List ℕ) (n : ℕ) → n ≡ size_by (length_of 1) b → 0 < n → (4 ≤ length b) × (n ≤ length b)
+whole_start b n e h = let w = size_whole (length_of 1) b (rw (← e) h) in (w.long, omega (arith, w.size, w.fits))
 
 -- one of kind 4 has 25 bytes
-pub place_four : (b : List ℕ) (at n k : ℕ) → at ≤ length b → 0 < n → n ≡ size_by (length_of 1) (drop at b) → k ≡ kind_in (drop at b) → k ≡ 4 → n ≡ 25
+pub four_long : (b : List ℕ) (n k : ℕ) → n ≡ size_by (length_of 1) b → 0 < n → k ≡ kind_in b → k ≡ 4 → n ≡ 25
 unfolding length_of
-place_four b at n k h i e f g = let w = (whole-place b at n h i e).1 in w ∙ rw (← f, g)
+four_long b n k e h f g = let w = size_whole (length_of 1) b (rw (← e) h) in e ∙ w.size ∙ rw (← f, g)
 
--- the lines of the records in front of place at are written
-pub record Lines (b o o2 : List ℕ) (to at next : ℕ) : Type 0 where
-  pub text : List ℕ
-  pub put : Put o o2 to text (3 * at) next
-  pub rest : text ++ log_lines (drop at b) ≡ log_lines b
+-- lines that are written, and the rest of the log
+pub lines-next : (b c text line : List ℕ) (n : ℕ) → n ≡ size_by (length_of 1) b → 0 < n → line ≡ line_of (record_of (kind_in b) (take n b)) → c ≡ drop n b → (all : List ℕ) → text ++ log_lines b ≡ all → (text ++ line) ++ log_lines c ≡ all
+lines-next b c text line n e h f g all i =
+    append_assoc text line (log_lines c)
+    ∙ ap (λ (u : List ℕ). text ++ u) (rw (f, g, e) (sym (lines_turn b (rw (← e) h))))
+    ∙ i
 
-pub lines_none : (b o : List ℕ) (to : ℕ) → Lines b o o to 0 to
-lines_none b o to = record { text = []; put = put-none o to; rest = refl }
-
-pub lines_more : {b o o1 o2 : List ℕ} {to at next n next2 : ℕ} → to ≤ length o → at ≤ length b → 0 < n → n ≡ size_by (length_of 1) (drop at b) → Lines b o o1 to at next →
-    Put o1 o2 next (line_of (record_of (kind_in (drop at b)) (take n (drop at b)))) (3 * n) next2 → Lines b o o2 to (at + n) next2
-lines_more {b} {o} {o1} {o2} {to} {at} {next} {n} {next2} h i k e l p =
-    let line = line_of (record_of (kind_in (drop at b)) (take n (drop at b))) in
-    record {
-      text = l.text ++ line;
-      put = put-more h l.put p refl (omega arith);
-      rest =
-          append_assoc l.text line _
-          ∙ ap (λ (u : List ℕ). l.text ++ u)
-          (rw (← drop-drop n at b) (ap (λ (m : ℕ). line_of (record_of (kind_in (drop at b)) (take m (drop at b))) ++ log_lines (drop m (drop at b))) e ∙ sym (lines_turn (drop at b) (rw (← e) k))))
-          ∙ l.rest;
-    }
-
-pub lines-all : {b o o2 : List ℕ} {to at next n : ℕ} → at ≤ length b → n ≡ size_by (length_of 1) (drop at b) → n ≡ 0 → Lines b o o2 to at next → Put o o2 to (log_lines b) (3 * length b) next
-lines-all {b} {o} {o2} {to} {at} {next} {n} h e z l =
-    let f : l.text ≡ log_lines b = sym (append-nil l.text) ∙ ap (λ (u : List ℕ). l.text ++ u) (sym (lines_end (drop at b) (sym e ∙ z))) ∙ l.rest in
-    put_as l.put f (rw (← f) (omega (arith, l.put.few)))
+pub lines-last : (b text all : List ℕ) → size_by (length_of 1) b ≡ 0 → text ++ log_lines b ≡ all → text ≡ all
+lines-last b text all h i = sym (append-nil text) ∙ ap (λ (u : List ℕ). text ++ u) (sym (lines_end b h)) ∙ i
 
 -- ---- a log that a job wrote
 

@@ -1,5 +1,7 @@
 -- The records' frame, which a log and a job file share: a length of what follows it, a kind, fields.
-use Rattle.std.specs.Prelude.{List, ℕ, ◌+◌, length, take, drop, eqb, ltb}
+use Rattle.std.specs.Prelude.{◌≡◌, List, ℕ, ◌+◌, ◌<◌, length, take, drop, eqb, ltb, MatchOption}
+use Rattle.std.specs.declared.option.Option.{Option}
+use Rattle.std.specs.Borrow.{Bor}
 use Rattle.choices.specs.Choice.{cond}
 use Rattle.machine.specs.Bytes.{number_of}
 
@@ -14,3 +16,7 @@ whole_by n b = cond (eqb n 0) 0 (cond (eqb (number_of (take 2 b)) n) (cond (ltb 
 -- the same by the kinds' lengths; fewer than four bytes are no record
 unfoldable pub size_by : (ℕ → ℕ) → List ℕ → ℕ
 size_by lengths b = cond (ltb (length b) 4) 0 (whole_by (lengths (kind_in b)) b)
+
+-- r is the record of n bytes at the start of b; none where n is 0
+abbrev pub Stands : ℕ → List ℕ → Option (Bor (List ℕ)) → Type 0
+Stands n b r = MatchOption r (n ≡ 0) (λ s. (0 < n) × (s.now ≡ take n b) × (length s.now ≡ n))

@@ -1,5 +1,5 @@
 -- A job file: the job that its bytes say, or that it is broken (50).
-use Rattle.std.specs.Prelude.{◌≡◌, List, [], ◌∷◌, ◌++◌, ℕ, zero, suc, ◌+◌, ◌*◌, ◌<◌, ◌≤◌, length, get_or, take, drop, eqb}
+use Rattle.std.specs.Prelude.{◌≡◌, List, [], ◌∷◌, ◌++◌, ℕ, zero, suc, ◌+◌, ◌*◌, ◌≤◌, length, get_or, take, drop, eqb}
 use Rattle.choices.specs.Choice.{cond, first_in, above_of, differ_of}
 use Rattle.machine.specs.Bytes.{bytes_of, number_of}
 use Rattle.machine_log.specs.Logged.{logged}
@@ -130,11 +130,6 @@ unfoldable pub job_of : List ℕ → Job
 job_of b = cond (eqb (fault_of b) 0) (good_job (pieces_of b)) (broken_job (fault_of b))
 
 -- ---- what the reader relies on and does
-
--- m numbers of n bytes at place at, if any, are inside b
-pub record Inside (b : List ℕ) (at n m : ℕ) : Type 0 where
-  pub narrow : n ≤ 8
-  pub inside : 0 < m → at + n * m ≤ length b
 
 -- a column of a file b that has room in o: m numbers of n bytes lie within the fields of kind k, from byte i on
 pub record Wanted (b o : List ℕ) (k i n m : ℕ) : Type 0 where

@@ -1,49 +1,48 @@
-// Numbers in lent bytes, and the records' frame, which a log and a job file share.
-ghost use Rattle.std.specs.Prelude.{◌≡◌, ◌+◌, ◌^◌, ◌≤◌, ◌<◌, length, take, drop};
+// Numbers in bytes, and the records' frame, which a log and a job file share.
+ghost use Rattle.std.specs.Prelude.{◌≡◌, ◌++◌, ◌-◌, ◌^◌, ◌≤◌, ◌<◌, length, replicate};
 ghost use Rattle.machine.specs.Bytes.{number_of};
-ghost use Rattle.job.specs.Frame.{kind_in, whole_by};
+ghost use Rattle.job.specs.Frame.{kind_in, whole_by, Stands};
 
-fn wide(x: u8) -> u64
-    ensures { (result ≡ x) × (result < 256) }
+// Bytes with zeros behind them.
+fn padded(bytes: &[u8]) -> [u8; 8]
+    requires { length bytes.now ≤ 8 }
+    ensures { result ≡ bytes.now ++ replicate (8 - length bytes.now) 0 }
 {
-    x as u64
+    let mut eight = [0u8; 8];
+    let n = bytes.len();
+    eight[..n].copy_from_slice(bytes);
+    eight
 }
 
-// The number that n bytes from place `at` on give, the last byte first.
-pub fn number_at(b: &[u8], at: usize, n: usize) -> u64
-    requires { (at + n ≤ length b.now) × (n ≤ 8) }
-    ensures { (result ≡ number_of (take n (drop at b.now))) × (result < 256 ^ n) }
+// The number that at most eight bytes give, the lowest first.
+pub fn number_in(bytes: &[u8]) -> u64
+    requires { length bytes.now ≤ 8 }
+    ensures { (result ≡ number_of bytes.now) × (result < 256 ^ length bytes.now) }
 {
-    let mut v: u64 = 0;
-    let mut i = n;
-    while 0 < i {
-        i -= 1;
-        v = wide(b[at + i]) + 256 * v;
-    }
-    v
+    u64::from_le_bytes(padded(bytes))
 }
 
-// The kind of the record at place `at`.
-pub fn kind_at(b: &[u8], at: usize) -> u64
-    requires { at + 4 ≤ length b.now }
-    ensures { result ≡ kind_in (drop at b.now) }
+// The kind of the record at the start of bytes.
+pub fn kind_in(bytes: &[u8]) -> u64
+    requires { 4 ≤ length bytes.now }
+    ensures { result ≡ kind_in bytes.now }
 {
-    number_at(b, at + 2, 2)
+    number_in(&bytes[2..4])
 }
 
-// How long the record at place `at` is in all, where n is its kind's length; 0 if it is not whole, or n is 0.
-pub fn whole_at(b: &[u8], at: usize, n: usize) -> usize
-    requires { (at + 4 ≤ length b.now) × (n < 65536) }
-    ensures { result ≡ whole_by n (drop at b.now) }
+// The record at the start of bytes, where n is its kind's length; none if it is not whole, or n is 0.
+pub fn whole_in(bytes: &[u8], n: usize) -> Option<&[u8]>
+    requires { (4 ≤ length bytes.now) × (n < 65536) }
+    ensures { Stands (whole_by n bytes.now) bytes.now result }
 {
     if n == 0 {
-        return 0;
+        return None;
     }
-    if number_at(b, at, 2) != n as u64 {
-        return 0;
+    if number_in(&bytes[..2]) != n as u64 {
+        return None;
     }
-    if b.len() - at < n + 2 {
-        return 0;
+    if bytes.len() < n + 2 {
+        return None;
     }
-    n + 2
+    Some(&bytes[..n + 2])
 }

@@ -1,143 +1,313 @@
 // A job file read: what runjob is given on its standard input. The file is gone through once for each kind of number in it.
-ghost use Rattle.std.specs.Prelude.{◌≡◌, ◌+◌, ◌≤◌, ◌<◌, length, get_or, drop, eqb};
+ghost use Rattle.std.specs.Prelude.{◌≡◌, ◌+◌, ◌≤◌, ◌<◌, length, get_or, drop, eqb, MatchResult};
+ghost use Rattle.std.specs.Iterator.{at_most};
 ghost use Rattle.choices.specs.Choice.{cond};
-ghost use Rattle.job.specs.Frame.{size_by};
 ghost use Rattle.job.specs.Listing.{Put};
-ghost use Rattle.job.specs.JobFileView.{lent, Room, broken_file, Says};
-ghost use Rattle.job.specs.JobFile.{length_in, piece_kind, piece_size, pieces_of, count_of, numbers_in, column as column_of, fault_of, job_of, default_budget, Inside, Wanted, Filled};
+ghost use Rattle.job.specs.JobFileView.{kind_number, piece_number, Decodes, IsWholePiece, IsPiece, NextPiece, HasColumn, words_of, SameSlices, SameLengths, Room, Says, Breaks};
+ghost use Rattle.job.specs.JobFile.{length_in, pieces_of, count_of, numbers_in, column, fault_of, job_of, default_budget, Wanted, Filled};
 
-use crate::frame::{kind_at, number_at, whole_at};
-use choices::numbers::{above, differ, first};
+use crate::frame::{kind_in, number_in, whole_in};
+use std::error::Error;
+use std::fmt;
 
-// What a file without a record of kind 17 may take.
+// What a file without a budget's record may take.
 const DEFAULT_BUDGET: u64 = 16000000;
 
 // ---- records
 
-fn length_of(kind: u64) -> usize
-    ensures { (result ≡ length_in kind) × (result < 65536) }
-{
-    match kind {
-        11 => 42,
-        12 => 12,
-        13 => 10,
-        14 => 10,
-        15 => 42,
-        16 => 18,
-        17 => 6,
-        _ => 0,
+// What a record says.
+#[derive(Clone, Copy, Debug, PartialEq, Eq)]
+pub enum Kind {
+    Digest,
+    Slot,
+    PublicWord,
+    SecretWord,
+    SecretDigest,
+    Cell,
+    Budget,
+}
+
+// A number that is no kind's.
+#[derive(Clone, Copy, Debug, PartialEq, Eq)]
+pub struct UnknownKind(pub u64);
+
+impl TryFrom<u64> for Kind {
+    type Error = UnknownKind;
+
+    ghost try_from_gives = { Decodes };
+
+    fn try_from(number: u64) -> Result<Kind, UnknownKind> {
+        match number {
+            11 => Ok(Kind::Digest),
+            12 => Ok(Kind::Slot),
+            13 => Ok(Kind::PublicWord),
+            14 => Ok(Kind::SecretWord),
+            15 => Ok(Kind::SecretDigest),
+            16 => Ok(Kind::Cell),
+            17 => Ok(Kind::Budget),
+            _ => Err(UnknownKind(number)),
+        }
     }
 }
 
-// How many bytes the record at place `at` has; 0 where no whole one stands.
-fn size_at(file: &[u8], at: usize) -> usize
-    requires { at ≤ length file.now }
-    ensures { result ≡ size_by length_in (drop at file.now) }
-{
-    if file.len() - at < 4 {
-        return 0;
+impl Kind {
+    // How many bytes follow the length's field.
+    fn length(self) -> usize
+        ensures { (result ≡ length_in (kind_number self)) × (result < 65536) }
+    {
+        match self {
+            Kind::Digest => 42,
+            Kind::Slot => 12,
+            Kind::PublicWord => 10,
+            Kind::SecretWord => 10,
+            Kind::SecretDigest => 42,
+            Kind::Cell => 18,
+            Kind::Budget => 6,
+        }
     }
-    whole_at(file, at, length_of(kind_at(file, at)))
 }
 
-// A record's kind and size. Where no whole one stands, all that is left counts as one of kind 0.
+// A record's kind and bytes. Where no whole one stands, all that is left counts as one of no kind.
 #[derive(Clone, Copy)]
-struct Piece {
-    kind: u64,
-    size: usize,
+struct Piece<'a> {
+    kind: Option<Kind>,
+    bytes: &'a [u8],
 }
 
-fn piece_at(file: &[u8], at: usize) -> Piece
-    requires { at ≤ length file.now }
-    ensures { (result.kind ≡ piece_kind (drop at file.now)) × (result.size ≡ piece_size (drop at file.now)) }
+// The record at the start of a file.
+fn whole(file: &[u8]) -> Option<Piece<'_>>
+    ensures { IsWholePiece file.now result }
 {
-    let size = size_at(file, at);
-    if size == 0 {
-        return Piece {
-            kind: 0,
-            size: file.len() - at,
-        };
+    if file.len() < 4 {
+        return None;
     }
-    Piece {
-        kind: kind_at(file, at),
-        size: size,
+    let kind = Kind::try_from(kind_in(file)).ok()?;
+    let bytes = whole_in(file, kind.length())?;
+    Some(Piece {
+        kind: Some(kind),
+        bytes,
+    })
+}
+
+fn first(file: &[u8]) -> Piece<'_>
+    ensures { IsPiece file.now result }
+{
+    whole(file).unwrap_or(Piece {
+        kind: None,
+        bytes: file,
+    })
+}
+
+// The records of a file, one behind the other.
+#[derive(Drop)]
+struct Pieces<'a>(&'a [u8]);
+
+impl<'a> Iterator for Pieces<'a> {
+    type Item = Piece<'a>;
+
+    ghost next_gives = { λ s r t. NextPiece s.0.now r t.0.now };
+
+    ghost remaining = { λ s. at_most (length s.0.now) };
+
+    fn next(&mut self) -> Option<Piece<'a>> {
+        if self.0.is_empty() {
+            return None;
+        }
+        let piece = first(self.0);
+        let n = piece.bytes.len();
+        self.0 = &self.0[n..];
+        Some(piece)
     }
 }
 
-// n where a and b are the same.
-fn same(a: u64, b: u64, n: usize) -> usize
-    ensures { result ≡ cond (eqb a b) n 0 }
+fn same_kind(a: Option<Kind>, b: Option<Kind>) -> bool
+    ensures { result ≡ eqb (piece_number a) (piece_number b) }
 {
-    if a == b { n } else { 0 }
+    a == b
 }
 
 // How many records are of a kind.
-fn count(file: &[u8], kind: u64) -> usize
-    ensures { result ≡ count_of kind (pieces_of file.now) }
+fn count(file: &[u8], kind: Option<Kind>) -> usize
+    ensures { result ≡ count_of (piece_number kind) (pieces_of file.now) }
 {
-    let mut at = 0;
     let mut n = 0;
-    while at < file.len() {
-        let p = piece_at(file, at);
-        n += same(p.kind, kind, 1);
-        at += p.size;
+    for piece in Pieces(file) {
+        if same_kind(piece.kind, kind) {
+            n += 1;
+        }
     }
     n
 }
 
-// 50 if the file is broken.
-fn fault(file: &[u8]) -> u64
-    ensures { result ≡ fault_of file.now }
+// ---- a broken file
+
+// Why a file is broken. Each reason has the number 50.
+#[derive(Clone, Copy, Debug, PartialEq, Eq)]
+pub enum BrokenFile {
+    TooLong,
+    StartsOtherwise,
+    Digests,
+    Slots,
+    Budgets,
+    NoRecord,
+}
+
+impl BrokenFile {
+    pub fn number(self) -> u64
+        ensures { result ≡ 50 }
+    {
+        50
+    }
+}
+
+impl fmt::Display for BrokenFile {
+    fn fmt<W: fmt::Write>(&self, f: &mut fmt::Formatter<W>) -> fmt::Result {
+        f.write_str(match self {
+            BrokenFile::TooLong => "more than 65,536 bytes",
+            BrokenFile::StartsOtherwise => "the first record is no digest",
+            BrokenFile::Digests => "more than one digest",
+            BrokenFile::Slots => "more than 1,024 slots",
+            BrokenFile::Budgets => "more than one budget",
+            BrokenFile::NoRecord => "bytes that are no record",
+        })
+    }
+}
+
+impl Error for BrokenFile {}
+
+fn checked(file: &[u8]) -> Result<(), BrokenFile>
+    ensures { MatchResult result (λ _. fault_of file.now ≡ 0) (λ _. fault_of file.now ≡ 50) }
 {
-    let start = piece_at(file, 0);
-    let digests = differ(count(file, 11), 1, 50);
-    let slots = above(count(file, 12), 1024, 50);
-    let budgets = above(count(file, 17), 1, 50);
-    let broken = differ(count(file, 0), 0, 50);
-    let counts = first(digests, first(slots, first(budgets, broken)));
-    first(
-        above(file.len(), 65536, 50),
-        first(differ(start.kind as usize, 11, 50), counts),
-    )
+    if file.len() > 65536 {
+        return Err(BrokenFile::TooLong);
+    }
+    if !same_kind(first(file).kind, Some(Kind::Digest)) {
+        return Err(BrokenFile::StartsOtherwise);
+    }
+    if count(file, Some(Kind::Digest)) != 1 {
+        return Err(BrokenFile::Digests);
+    }
+    if count(file, Some(Kind::Slot)) > 1024 {
+        return Err(BrokenFile::Slots);
+    }
+    if count(file, Some(Kind::Budget)) > 1 {
+        return Err(BrokenFile::Budgets);
+    }
+    if count(file, None) != 0 {
+        return Err(BrokenFile::NoRecord);
+    }
+    Ok(())
 }
 
 // ---- numbers
 
-// m numbers of n bytes each, from place `at` of the file, behind place `to`.
-fn put_numbers(file: &[u8], at: usize, n: usize, m: usize, out: &mut [u64], to: usize) -> usize
-    requires { Inside file.now at n m × (to + m ≤ length out.old) }
-    ensures { Put out.old out.new to (numbers_in n m (drop at file.now)) m result }
-{
-    let mut i = 0;
-    while i < m {
-        out[to + i] = number_at(file, at + n * i, n);
-        i += 1;
-    }
-    to + m
+// Which numbers of a kind's records are meant: `many` of `width` bytes each, from byte `from` of the fields on.
+#[derive(Clone, Copy)]
+struct Column {
+    kind: Kind,
+    from: usize,
+    width: usize,
+    many: usize,
 }
 
-// From each record of a kind m numbers of n bytes each, from byte `from` of its fields on.
-fn column(file: &[u8], kind: u64, from: usize, n: usize, m: usize, out: &mut [u64]) -> usize
-    requires { Wanted file.now out.old kind from n m }
-    ensures { Filled out.old out.new (column_of kind from n m (pieces_of file.now)) result }
-{
-    let mut at = 0;
-    let mut to = 0;
-    while at < file.len() {
-        let p = piece_at(file, at);
-        let many = same(p.kind, kind, m);
-        to = put_numbers(file, at + 4 + from, n, many, out, to);
-        at += p.size;
+impl Column {
+    // Those of a record, behind place `to`.
+    fn put(self, piece: Piece<'_>, out: &mut [u64], to: usize) -> usize
+        requires { HasColumn piece.bytes.now (piece_number piece.kind) out.old (kind_number self.kind) self.from self.width self.many to }
+        ensures { Put out.old out.new to (numbers_in self.width (cond (eqb (piece_number piece.entry.kind) (kind_number self.kind)) self.many 0) (drop self.from (drop 4 piece.entry.bytes.now))) self.many result }
+    {
+        if !same_kind(piece.kind, Some(self.kind)) {
+            return to;
+        }
+        let fields = &piece.bytes[4 + self.from..];
+        let n = self.width;
+        for i in 0..self.many {
+            out[to + i] = number_in(&fields[n * i..n * i + n]);
+        }
+        to + self.many
     }
-    to
+
+    // Those of all records.
+    fn fill(self, file: &[u8], out: &mut [u64]) -> usize
+        requires { Wanted file.now out.old (kind_number self.kind) self.from self.width self.many }
+        ensures { Filled out.old out.new (column (kind_number self.kind) self.from self.width self.many (pieces_of file.now)) result }
+    {
+        let mut to = 0;
+        for piece in Pieces(file) {
+            to = self.put(piece, out, to);
+        }
+        to
+    }
 }
+
+const DIGEST: Column = Column {
+    kind: Kind::Digest,
+    from: 0,
+    width: 8,
+    many: 5,
+};
+
+const OPCODES: Column = Column {
+    kind: Kind::Slot,
+    from: 0,
+    width: 2,
+    many: 1,
+};
+
+const ARGUMENTS: Column = Column {
+    kind: Kind::Slot,
+    from: 2,
+    width: 8,
+    many: 1,
+};
+
+const PUBLIC: Column = Column {
+    kind: Kind::PublicWord,
+    from: 0,
+    width: 8,
+    many: 1,
+};
+
+const SECRET: Column = Column {
+    kind: Kind::SecretWord,
+    from: 0,
+    width: 8,
+    many: 1,
+};
+
+const DIGESTS: Column = Column {
+    kind: Kind::SecretDigest,
+    from: 0,
+    width: 8,
+    many: 5,
+};
+
+const ADDRESSES: Column = Column {
+    kind: Kind::Cell,
+    from: 0,
+    width: 8,
+    many: 1,
+};
+
+const VALUES: Column = Column {
+    kind: Kind::Cell,
+    from: 8,
+    width: 8,
+    many: 1,
+};
+
+const BUDGET: Column = Column {
+    kind: Kind::Budget,
+    from: 0,
+    width: 4,
+    many: 1,
+};
 
 // ---- the job
 
-// What a file says beside the words in the slices: its number, 0 or 50, and how many words there are of each kind.
+// What a file says beside the words in the slices, and how many words there are of each kind.
 #[derive(Clone, Copy)]
 pub struct JobFile {
-    pub number: u64,
     pub digest: [u64; 5],
     pub slots: usize,
     pub publics: usize,
@@ -150,92 +320,58 @@ pub struct JobFile {
 
 fn digest_of(file: &[u8]) -> [u64; 5]
     requires { fault_of file.now ≡ 0 }
-    ensures { result ≡ column_of 11 0 8 5 (pieces_of file.now) }
+    ensures { result ≡ column 11 0 8 5 (pieces_of file.now) }
 {
     let mut words = [0u64; 5];
-    column(file, 11, 0, 8, 5, &mut words);
+    DIGEST.fill(file, &mut words);
     words
 }
 
 // The budget's record overwrites what an absent one means.
 fn budget_of(file: &[u8]) -> u64
     requires { fault_of file.now ≡ 0 }
-    ensures { result ≡ get_or (column_of 17 0 4 1 (pieces_of file.now)) 0 default_budget }
+    ensures { result ≡ get_or (column 17 0 4 1 (pieces_of file.now)) 0 default_budget }
 {
     let mut words = [DEFAULT_BUDGET; 1];
-    column(file, 17, 0, 4, 1, &mut words);
+    BUDGET.fill(file, &mut words);
     words[0]
 }
 
-// Both words of every slot.
-fn slots_of(file: &[u8], opcodes: &mut [u64], arguments: &mut [u64]) -> usize
-    requires { (fault_of file.now ≡ 0) × (1024 ≤ length opcodes.old) × (1024 ≤ length arguments.old) }
-    ensures filled { Filled opcodes.old opcodes.new (column_of 12 0 2 1 (pieces_of file.now)) result }
-    ensures filled_2 { Filled arguments.old arguments.new (column_of 12 2 8 1 (pieces_of file.now)) result }
-{
-    column(file, 12, 0, 2, 1, opcodes);
-    column(file, 12, 2, 8, 1, arguments)
-}
-
-// Both words of every RAM cell.
-fn cells_of(file: &[u8], addresses: &mut [u64], values: &mut [u64]) -> usize
-    requires { (fault_of file.now ≡ 0) × (3276 ≤ length addresses.old) × (3276 ≤ length values.old) }
-    ensures filled { Filled addresses.old addresses.new (column_of 16 0 8 1 (pieces_of file.now)) result }
-    ensures filled_2 { Filled values.old values.new (column_of 16 8 8 1 (pieces_of file.now)) result }
-{
-    column(file, 16, 0, 8, 1, addresses);
-    column(file, 16, 8, 8, 1, values)
-}
-
-fn broken(number: u64) -> JobFile
-    ensures { result ≡ broken_file number }
-{
-    JobFile {
-        number: number,
-        digest: [0u64; 5],
-        slots: 0,
-        publics: 0,
-        secrets: 0,
-        digests: 0,
-        cells: 0,
-        budget: 0,
-    }
+// The slices that a file's words go to: lent, and no `Vec`, so that reading a file cannot run out of memory. How many are filled stands in `JobFile`.
+#[derive(Drop)]
+pub struct Words<'a> {
+    pub opcodes: &'a mut [u64],
+    pub arguments: &'a mut [u64],
+    pub public: &'a mut [u64],
+    pub secret: &'a mut [u64],
+    pub digests: &'a mut [u64],
+    pub addresses: &'a mut [u64],
+    pub values: &'a mut [u64],
 }
 
 // The job that a file says. The slices keep what they held behind its words; a broken file leaves them as they were.
-pub fn read_job(
-    file: &[u8],
-    opcodes: &mut [u64],
-    arguments: &mut [u64],
-    public: &mut [u64],
-    secret: &mut [u64],
-    digests: &mut [u64],
-    addresses: &mut [u64],
-    values: &mut [u64],
-) -> JobFile
-    requires { Room (lent opcodes.old arguments.old public.old secret.old digests.old addresses.old values.old) }
-    ensures { Says (job_of file.now) result
-        (lent opcodes.old arguments.old public.old secret.old digests.old addresses.old values.old)
-        (lent opcodes.new arguments.new public.new secret.new digests.new addresses.new values.new) }
+pub fn read_job(file: &[u8], words: &mut Words) -> Result<JobFile, BrokenFile>
+    requires { Room (words_of words.old) }
+    ensures same { SameSlices words.old words.new }
+    ensures lengths { SameLengths (words_of words.old) (words_of words.new) }
+    ensures job { MatchResult result (λ r. Says (job_of file.now) r (words_of words.old) (words_of words.new))
+        (λ e. Breaks (job_of file.now) (words_of words.old) (words_of words.new)) }
 {
-    let number = fault(file);
-    if number != 0 {
-        return broken(number);
-    }
-    let digest = digest_of(file);
-    let slots = slots_of(file, opcodes, arguments);
-    let publics = column(file, 13, 0, 8, 1, public);
-    let secrets = column(file, 14, 0, 8, 1, secret);
-    let words = column(file, 15, 0, 8, 5, digests);
-    let cells = cells_of(file, addresses, values);
-    JobFile {
-        number: 0,
-        digest: digest,
-        slots: slots,
-        publics: publics,
-        secrets: secrets,
-        digests: words,
-        cells: cells,
+    checked(file)?;
+    let slots = OPCODES.fill(file, words.opcodes);
+    ARGUMENTS.fill(file, words.arguments);
+    let publics = PUBLIC.fill(file, words.public);
+    let secrets = SECRET.fill(file, words.secret);
+    let digests = DIGESTS.fill(file, words.digests);
+    let cells = ADDRESSES.fill(file, words.addresses);
+    VALUES.fill(file, words.values);
+    Ok(JobFile {
+        digest: digest_of(file),
+        slots,
+        publics,
+        secrets,
+        digests,
+        cells,
         budget: budget_of(file),
-    }
+    })
 }

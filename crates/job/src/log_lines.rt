@@ -1,64 +1,112 @@
 // The stack lines of a log.
-ghost use Rattle.std.specs.Prelude.{◌≡◌, ◌+◌, ◌*◌, ◌≤◌, ◌<◌, length, take, drop};
+ghost use Rattle.std.specs.Prelude.{◌≡◌, ◌≤◌, length, Some};
+ghost use Rattle.std.specs.Iterator.{at_most};
 ghost use Rattle.machine.specs.Records.{length_of, record_of};
-ghost use Rattle.job.specs.Frame.{kind_in, size_by};
-ghost use Rattle.job.specs.Listing.{Put};
+ghost use Rattle.job.specs.Frame.{size_by, Stands};
+ghost use Rattle.job.specs.Listing.{direction_text};
+ghost use Rattle.job.specs.ListingView.{direction_number, stack_text_of};
 ghost use Rattle.job.specs.LogLines.{line_of, log_lines};
+ghost use Rattle.job.specs.LogLinesView.{text_of, NextRecord};
 
-use crate::frame::{kind_at, number_at, whole_at};
-use crate::listing::stack_line;
+use crate::frame::{kind_in, number_in, whole_in};
+use crate::listing::{Direction, StackLine};
 use machine_log::kinds::length_of;
+use std::fmt;
 
-// How many bytes the record at place `at` has; 0 where no whole one stands.
-pub fn record_length(log: &[u8], at: usize) -> usize
-    requires { at ≤ length log.now }
-    ensures { result ≡ size_by (length_of 1) (drop at log.now) }
+// The record at the start of a log; none where no whole one stands.
+pub fn record_in(log: &[u8]) -> Option<&[u8]>
+    ensures { Stands (size_by (length_of 1) log.now) log.now result }
 {
-    if log.len() - at < 4 {
-        return 0;
+    if log.len() < 4 {
+        return None;
     }
-    match length_of(1, kind_at(log, at)) {
-        Some(size) => whole_at(log, at, size),
-        None => 0,
-    }
+    whole_in(log, length_of(1, kind_in(log)))
 }
 
-// The line of the record of kind 4 at place `at`, behind place `to`.
-pub fn stack_line_at(log: &[u8], at: usize, out: &mut [u8], to: usize) -> usize
-    requires { (at + 25 ≤ length log.now) × (to + 75 ≤ length out.old) }
-    ensures { Put out.old out.new to (line_of (record_of 4 (take 25 (drop at log.now)))) 75 result }
+// Any byte but 0 is a write.
+fn direction(byte: u8) -> Direction
+    ensures { direction_text (direction_number result) ≡ direction_text byte }
 {
-    let clock = number_at(log, at + 4, 4);
-    let pointer = number_at(log, at + 8, 8);
-    let value = number_at(log, at + 17, 8);
-    stack_line(out, to, clock, pointer, log[at + 16], value)
-}
-
-// The line of the record of n bytes at place `at`, if its kind has one.
-fn line_at(log: &[u8], at: usize, n: usize, out: &mut [u8], to: usize) -> usize
-    requires { (at ≤ length log.now) × (0 < n) × (n ≡ size_by (length_of 1) (drop at log.now)) × (to + 3 * n ≤ length out.old) }
-    ensures { Put out.old out.new to
-        (line_of (record_of (kind_in (drop at log.now)) (take n (drop at log.now)))) (3 * n) result }
-{
-    if kind_at(log, at) == 4 {
-        stack_line_at(log, at, out, to)
+    if byte == 0 {
+        Direction::Read
     } else {
-        to
+        Direction::Write
     }
 }
 
-// All of them, behind place `to`. A line is at most three times as long as its record.
-pub fn stack_lines(log: &[u8], out: &mut [u8], to: usize) -> usize
-    requires { to + 3 * length log.now ≤ length out.old }
-    ensures { Put out.old out.new to (log_lines log.now) (3 * length log.now) result }
+// What a record of kind 4 says.
+pub fn stack_line_in(bytes: &[u8]) -> StackLine
+    requires { length bytes.now ≡ 25 }
+    ensures { stack_text_of result ≡ line_of (record_of 4 bytes.now) }
 {
-    let mut at = 0;
-    let mut next = to;
-    let mut n = record_length(log, at);
-    while 0 < n {
-        next = line_at(log, at, n, out, next);
-        at += n;
-        n = record_length(log, at);
+    StackLine {
+        clock: number_in(&bytes[4..8]),
+        pointer: number_in(&bytes[8..16]),
+        direction: direction(bytes[16]),
+        value: number_in(&bytes[17..25]),
     }
-    next
+}
+
+// A record of the op stack, which has a line, or another one, which has none.
+#[derive(Clone, Copy)]
+pub enum Record {
+    Stack(StackLine),
+    Other,
+}
+
+impl fmt::Display for Record {
+    ghost output = { λ r. Some (text_of r) };
+
+    fn fmt<W: fmt::Write>(&self, f: &mut fmt::Formatter<W>) -> fmt::Result {
+        match self {
+            Record::Stack(line) => line.fmt(f),
+            Record::Other => Ok(()),
+        }
+    }
+}
+
+fn parsed(kind: u64, bytes: &[u8]) -> Record
+    requires { kind ≡ 4 → length bytes.now ≡ 25 }
+    ensures { text_of result ≡ line_of (record_of kind bytes.now) }
+{
+    if kind == 4 {
+        Record::Stack(stack_line_in(bytes))
+    } else {
+        Record::Other
+    }
+}
+
+// The records of a log, up to the first place where no whole one stands.
+#[derive(Drop)]
+struct Records<'a>(&'a [u8]);
+
+impl Iterator for Records<'_> {
+    type Item = Record;
+
+    ghost next_gives = { λ s r t. NextRecord s.0.now r t.0.now };
+
+    ghost remaining = { λ s. at_most (length s.0.now) };
+
+    fn next(&mut self) -> Option<Record> {
+        let bytes = record_in(self.0)?;
+        let kind = kind_in(self.0);
+        let n = bytes.len();
+        self.0 = &self.0[n..];
+        Some(parsed(kind, bytes))
+    }
+}
+
+// The lines of all of them.
+#[derive(Clone, Copy)]
+pub struct StackLines<'a>(pub &'a [u8]);
+
+impl fmt::Display for StackLines<'_> {
+    ghost output = { λ s. Some (log_lines s.0.now) };
+
+    fn fmt<W: fmt::Write>(&self, f: &mut fmt::Formatter<W>) -> fmt::Result {
+        for record in Records(self.0) {
+            record.fmt(f)?;
+        }
+        Ok(())
+    }
 }

@@ -9,6 +9,7 @@ use std::io;
 use std::io::Read;
 
 // Reads until buf is full or the input ends, and returns how many bytes it put at the start of buf. On an empty buf it makes no call.
+// A `while`, since a read says how far it came: no `for` and no chain counts so.
 pub fn read_full<R: Read>(from: &mut R, buf: &mut [u8]) -> io::Result<usize>
     ensures bound { ReadsAtMost result buf.new }
     ensures bytes { IfOk result (λ n. Consumes (R.remaining from.old) (R.remaining from.new) (take n buf.new)) }

@@ -3,12 +3,11 @@
 use mathlib.Core.Path.{◌≡◌, refl, sym, ap, subst, ◌∙◌}
 use mathlib.Core.Bool.{Bool, true, false, true≢false}
 use mathlib.Core.List.{List, [], ◌∷◌, ◌++◌, append_assoc, append-nil}
-use Prim.Native.Nat.{ℕ, suc, zero-le, ◌+◌, ◌-◌, ◌≤◌, ◌<◌}
+use Prim.Native.Nat.{ℕ, suc, ◌+◌, ◌-◌, ◌≤◌, ◌<◌}
 use native.Mathlib.Omega.{arith}
-use borrow.Author.Tests.{eq-eqb, ne_eqb, le-ltb}
+use borrow.Author.Tests.{le-ltb}
 use lib.ListN.{length, take, drop, length-append}
 use lib.Seq.{take_at}
-use lib.Dec.{ltb}
 use Rattle.machine.specs.declared.state.VMState.{VMState}
 use Rattle.choices.specs.Choice.{cond}
 use Rattle.machine.specs.Machine.{Code, Memory, Machine, machine}
@@ -37,45 +36,29 @@ use Rattle.replay.proofs.Demand3.{since-sized}
 use Rattle.machine_steps.specs.RanView.{ending_in, RanAs}
 use Rattle.machine_steps.specs.declared.answer.Ran.{Ran}
 use Rattle.machine_vm.specs.RunView.{Traces}
-use Rattle.job.specs.Listing.{Put}
 use Rattle.job.specs.LogLines.{line_of, lines_of, log_lines}
-use Rattle.job.specs.Printed.{out_lines, end_line, not_opened, output_of, path_lines}
-use Rattle.job.proofs.ListingLaws.{put_as, put-more, put_front}
+use Rattle.job.specs.Printed.{out_lines, end_line, output_of, path_lines}
 use Rattle.job.proofs.LogLinesLaws.{AllSized, none, more, log-lines}
+use Rattle.std.specs.Prelude.{None, Some}
 use Rattle.runjob.specs.declared.pending.Pending.{Pending}
-use Rattle.runjob.specs.Pieces.{lines_from, code_for, machine_for, left_lines, is_full, piece_lines, ended_with, moved_on}
-use Rattle.runjob.specs.PieceView.{Room, Holds, Ready, Writes}
+use Rattle.runjob.specs.Pieces.{lines_from, code_for, machine_for, left_lines, is_full, piece_lines, moved_on}
+use Rattle.runjob.specs.PieceView.{Ready, Writes}
 
 -- ---- texts
-
-pub put_wide : {b b2 r s : List ℕ} {at n m next : ℕ} → Put b b2 at r n next → r ≡ s → n ≤ m → Put b b2 at s m next
-put_wide p e h = put_as p e (omega (arith, p.few, h, ap length e))
-
--- a text stands inside what it was put in
-put-inside : {b b2 s : List ℕ} {most next : ℕ} → Put b b2 0 s most next → next ≤ length b2
-put-inside {b} {b2} {s} p = let long : length b2 ≡ length s + length (drop (length s) b) = ap length (p.is ∙ logged-front b s) ∙ length-append s _ in omega (arith, long, p.end)
 
 lines-append : (rs ss : List Record) → lines_of (rs ++ ss) ≡ lines_of rs ++ lines_of ss
 unfolding lines_of
 lines-append [] ss = refl
 lines-append (r ∷ rs) ss = rw (lines-append rs ss) (sym (append_assoc (line_of r) (lines_of rs) (lines_of ss)))
 
-module _ (log out : List ℕ) (e : Ending) (n : ℕ) (s : VMState) where
-  abbrev ends : List ℕ
-  ends = out_lines (take s.outputs out) ++ end_line e n s.pointer s.depth
+-- the log's lines, and behind them the output's and the end line, or nothing where the log was full
+pub lines-full : (log out : List ℕ) (e : Ending) (n : ℕ) (s : VMState) → is_full e ≡ true → piece_lines log out e n s ≡ log_lines log
+unfolding piece_lines
+lines-full log out e n s h = ap (λ (x : Bool). log_lines log ++ cond x [] (out_lines (take s.outputs out) ++ end_line e n s.pointer s.depth)) h ∙ append-nil (log_lines log)
 
-  pub lines-full : {t t2 : List ℕ} {i k next : ℕ} → is_full e ≡ true → i ≤ k → Put t t2 0 (log_lines log) i next → Put t t2 0 (piece_lines log out e n s) k next
-  unfolding piece_lines
-  lines-full h l p = put_wide p (sym (ap (λ (x : Bool). log_lines log ++ cond x [] ends) h ∙ append-nil (log_lines log))) l
-
-  pub lines-ended : {t t1 t2 t3 : List ℕ} {i j k a b next : ℕ} → is_full e ≡ false → i + j + 96 ≤ k → Put t t1 0 (log_lines log) i a → Put t1 t2 a (out_lines (take s.outputs out)) j b →
-      Put t2 t3 b (end_line e n s.pointer s.depth) 96 next → Put t t3 0 (piece_lines log out e n s) k next
-  unfolding piece_lines
-  lines-ended h l p q r =
-      put_wide
-      (put-more zero-le (put-more zero-le p q refl refl) r
-      (append_assoc (log_lines log) (out_lines (take s.outputs out)) (end_line e n s.pointer s.depth) ∙ sym (ap (λ (x : Bool). log_lines log ++ cond x [] ends) h)) refl)
-      refl l
+pub lines-ended : (log out : List ℕ) (e : Ending) (n : ℕ) (s : VMState) → is_full e ≡ false → piece_lines log out e n s ≡ log_lines log ++ (out_lines (take s.outputs out) ++ end_line e n s.pointer s.depth)
+unfolding piece_lines
+lines-ended log out e n s h = ap (λ (x : Bool). log_lines log ++ cond x [] (out_lines (take s.outputs out) ++ end_line e n s.pointer s.depth)) h
 
 -- ---- a trace is a part of the run
 
@@ -127,18 +110,13 @@ part-lines {m = m} (by_step {n = n} {x = x} {p = p} h e g) done =
 
 -- ---- what is left to print
 
-module _ (j : Pending) (c : Code) (m : Memory) where
-  pub left-none : j.more ≡ false → left_lines j c m ≡ []
-  unfolding left_lines
-  left-none h = rw h
+pub left-none : (c : Code) (m : Memory) → left_lines None c m ≡ []
+unfolding left_lines
+left-none c m = refl
 
-  pub left-run : j.number ≡ 0 → left_lines j c m ≡ cond j.more (lines_from j.done j.budget (machine_for j c m)) []
-  unfolding left_lines
-  left-run h = rw (eq-eqb j.number 0 h)
-
-  pub left-refused : j.more ≡ true → (j.number ≡ 0 → ⊥) → left_lines j c m ≡ not_opened j.number
-  unfolding left_lines
-  left-refused h k = rw (h, ne_eqb j.number 0 k)
+pub left-some : (j : Pending) (c : Code) (m : Memory) → left_lines (Some j) c m ≡ lines_from j.done j.budget (machine_for j c m)
+unfolding left_lines
+left-some j c m = refl
 
 -- ---- a piece
 
@@ -182,50 +160,37 @@ followed done n x t m log log2 s one few step w =
           is = rw (r.steps, r.ending) (part-lines g done ∙ cut (is_full p.ending) _ _ _ _ lines);
         })
 
-module _ (j : Pending) (c : Code) (m : Memory) (t : Ran) (n : Memory) (log log2 text : List ℕ) where
-  module _ (y : Ready j c m) (room : Room log text) (z : j.number ≡ 0) (w : Traces unpriced j.budget (machine_for j c m) log t n log2) where
+module _ (j : Pending) (c : Code) (m : Memory) (t : Ran) (n : Memory) (log log2 : List ℕ) where
+  module _ (y : Ready j c m) (room : length log ≡ 524288) (w : Traces unpriced j.budget (machine_for j c m) log t n log2) where
     goes_on : Followed j.done j.budget (machine_for j c m) t (machine t.state (code_for j c) n) log2
-    goes_on = followed j.done j.budget (machine_for j c m) t n log log2 (y.sound z) (y.revision z) room.few room.step w
+    goes_on = followed j.done j.budget (machine_for j c m) t n log log2 y.sound y.revision (omega arith) (omega arith) w
 
-    pub piece-holds : length n.output ≡ length m.output → length log2 ≡ length log → Holds text log2 n.output j.done t
-    piece-holds i k =
+    pub piece-holds : (t.bytes ≤ length log2) × (t.state.outputs ≤ length n.output) × (j.done + t.count < 18446744073709551616) × (t.count ≤ j.budget)
+    piece-holds = let f = goes_on in (f.inside, f.sound.outputs, omega (arith, f.few, y.steps), f.few)
+
+    -- the log was full
+    pub piece-full : is_full (ending_in t.ending) ≡ true → length n.output ≡ length m.output → Writes j c m (Some (moved_on j t)) n (log_lines (take t.bytes log2))
+    piece-full h i =
         let f = goes_on in
         record {
-          bytes = f.inside;
-          outputs = f.sound.outputs;
-          steps = omega (arith, f.few, y.steps);
-          lines = omega (arith, f.inside, f.sound.outputs, i, k, y.output, room.lines);
+          is = left-some j c m ∙ f.is
+              ∙ ap (λ (x : Bool). piece_lines (take t.bytes log2) n.output (ending_in t.ending) (j.done + t.count) t.state ++ cond x (lines_from (j.done + t.count) (j.budget - t.count) (machine t.state (code_for j c) n)) []) h
+              ∙ ap (λ (u : List ℕ). u ++ lines_from (j.done + t.count) (j.budget - t.count) (machine t.state (code_for j c) n)) (lines-full _ _ _ _ _ h)
+              ∙ ap (λ (u : List ℕ). log_lines (take t.bytes log2) ++ u) (sym (left-some (moved_on j t) c n));
+          less = omega (arith, f.some h, f.few);
+          ready = record { opcodes = y.opcodes; arguments = y.arguments; public = y.public; secret = y.secret; digests = y.digests; sound = f.sound; revision = f.revision; output = omega (arith, i, y.output); steps = omega (arith, f.few, y.steps) };
         }
 
-    pub piece_counts : (j.done + t.count < 18446744073709551616) × (t.count ≤ j.budget)
-    piece_counts = let f = goes_on in (omega (arith, f.few, y.steps), f.few)
-
-    pub piece-writes : {text2 : List ℕ} {at most : ℕ} → j.more ≡ true → length n.output ≡ length m.output →
-        Put text text2 0 (piece_lines (take t.bytes log2) n.output (ending_in t.ending) (j.done + t.count) t.state) most at → Writes j c m (moved_on j t at) n text2
-    piece-writes {text2} {at} h i p =
+    -- the run has ended
+    pub piece-ended : {text ends : List ℕ} → is_full (ending_in t.ending) ≡ false → ends ≡ end_line (ending_in t.ending) (j.done + t.count) t.state.pointer t.state.depth →
+        text ≡ log_lines (take t.bytes log2) ++ (out_lines (take t.state.outputs n.output) ++ ends) → Writes j c m None n text
+    piece-ended {text} h e g =
         let f = goes_on in
-        let e = is_full (ending_in t.ending) in
         record {
-          is = left-run j c m z ∙ rw h f.is ∙ ap (λ (u : List ℕ). u ++ cond e (lines_from (j.done + t.count) (j.budget - t.count) (machine t.state (code_for j c) n)) []) (sym (put_front p)) ∙ ap (λ (u : List ℕ). take at text2 ++ u) (sym (left-run (moved_on j t at) c n z));
-          bytes = put-inside p;
-          less = rw h (fewer e refl);
-          ready = record { opcodes = y.opcodes; arguments = y.arguments; public = y.public; secret = y.secret; digests = y.digests; sound = λ _. f.sound; revision = λ _. f.revision; output = omega (arith, i, y.output); steps = omega (arith, f.few, y.steps) };
+          is = left-some j c m ∙ f.is
+              ∙ ap (λ (x : Bool). piece_lines (take t.bytes log2) n.output (ending_in t.ending) (j.done + t.count) t.state ++ cond x (lines_from (j.done + t.count) (j.budget - t.count) (machine t.state (code_for j c) n)) []) h
+              ∙ ap (λ (u : List ℕ). u ++ []) (lines-ended _ _ _ _ _ h ∙ ap (λ (u : List ℕ). log_lines (take t.bytes log2) ++ (out_lines (take t.state.outputs n.output) ++ u)) (sym e) ∙ sym g)
+              ∙ ap (λ (u : List ℕ). text ++ u) (sym (left-none c n));
+          less = omega arith;
+          ready = tt;
         }
-      where
-        fewer : (b : Bool) → is_full (ending_in t.ending) ≡ b → cond b (suc (j.budget - t.count)) 0 < suc j.budget
-        fewer true q = omega (arith, goes_on.some q, goes_on.few)
-        fewer false q = omega arith
-
--- a job that was not opened
-pub refusal-writes : (j : Pending) (c : Code) (m : Memory) {text text2 : List ℕ} {at most : ℕ} → Ready j c m → j.more ≡ true → (j.number ≡ 0 → ⊥) →
-    Put text text2 0 (not_opened j.number) most at → Writes j c m (ended_with j at) m text2
-refusal-writes j c m {text2 = text2} {at} y h k p =
-    record {
-      is = left-refused j c m h k ∙ sym (put_front p) ∙ sym (append-nil (take at text2)) ∙ ap (λ (u : List ℕ). take at text2 ++ u) (sym (left-none (ended_with j at) c m refl));
-      bytes = put-inside p;
-      less = rw h (omega arith);
-      ready = record { opcodes = y.opcodes; arguments = y.arguments; public = y.public; secret = y.secret; digests = y.digests; sound = y.sound; revision = y.revision; output = y.output; steps = y.steps };
-    }
-
-pub room-kept : {log text log2 text2 : List ℕ} → Room log text → length log2 ≡ length log → length text2 ≡ length text → Room log2 text2
-room-kept y h k = record { few = omega (arith, y.few, h); step = omega (arith, y.step, h); lines = omega (arith, y.lines, h, k) }

@@ -1,42 +1,42 @@
 -- What starting a job gives, by the contracts of reading and opening it. Assumes nothing.
 use mathlib.Core.Path.{◌≡◌, refl, sym, ap, subst, ◌∙◌}
-use mathlib.Core.Bool.{Bool, true, false}
+use mathlib.Core.Bool.{Bool}
 use mathlib.Core.List.{List}
 use Prim.Native.Nat.{ℕ, ◌+◌, ◌≤◌, ◌<◌}
 use native.Mathlib.Nat.{zero-add}
 use native.Mathlib.Omega.{arith}
-use borrow.Author.Tests.{eqb-true, eqb-false, eq-eqb, ne_eqb}
+use borrow.Author.Tests.{eq-eqb, ne_eqb}
 use lib.ListN.{length, take, drop, replicate, length-append, length-replicate}
 use lib.Seq.{take_at}
-use lib.Dec.{eqb}
-use Rattle.choices.specs.Choice.{cond, first_of}
-use Rattle.machine.specs.Refusal.{plainly}
+use Rattle.choices.specs.Choice.{cond}
+use Rattle.machine.specs.Refusal.{Refusal, refusal_of}
 use Rattle.machine.specs.Machine.{Code, Memory, Machine, machine, code, memory}
 use Rattle.machine.specs.Apply.{Outcome, took, kept, lost}
 use Rattle.machine_log.specs.Logged.{logged}
-use Rattle.machine.specs.PlaceA.{open_a}
 use Rattle.machine.specs.FeeTable.{unpriced}
-use Rattle.machine.specs.Open.{opened, open_of}
+use Rattle.machine.specs.Open.{open_of}
 use Rattle.machine.specs.Decide.{decide_of}
 use Rattle.machine.specs.Path.{count, unlogged, path_by}
 use Rattle.machine.specs.Sound.{Sound}
-use Rattle.choices.proofs.Choice.{first_zero, first-left, first-nil}
 use Rattle.machine_log.proofs.Logged.{logged-front}
 use Rattle.machine.proofs.PlaceA.{open_sound}
-use Rattle.machine_perform.specs.declared.answer.Answer.{Answer}
 use Rattle.machine_perform.specs.declared.answer.Answer.TheVariants as A
 use Rattle.machine_perform.specs.declared.answer.Moved.{Moved}
-use Rattle.machine_perform.specs.AnswerView.{Answered, did, turned, answer_in, answered_by, left_by}
+use Rattle.machine_perform.specs.AnswerView.{did, turned, answer_in, answered_by, left_by}
 use Rattle.machine_open.specs.OpenView.{no_state, Opens}
 use Rattle.job.specs.declared.job_file.JobFile.{JobFile}
 use Rattle.job.specs.JobFile.{Job, Filled, job_of}
-use Rattle.job.specs.JobFileView.{Lent, Says}
+use Rattle.machine.specs.declared.refusal.InstructionError.{InstructionError}
+use Rattle.job.specs.declared.job_file.BrokenFile.{BrokenFile}
+use Rattle.job.specs.JobFileView.{Lent, Says, Breaks}
+use Rattle.std.specs.Prelude.{Ok, Err, Result, IsErrAnd}
+use Rattle.runjob.specs.declared.pending.Pending.{Pending}
+use Rattle.runjob.specs.declared.refusals.NotOpened.{NotOpened}
+use Rattle.runjob.specs.declared.refusals.NotOpened.TheVariants as N
 use Rattle.job.specs.Printed.{path_lines, run_lines, not_opened, code_of, memory_of, on_opened, job_lines}
-use Rattle.runjob.specs.Refusals.{number_in}
-use Rattle.runjob.specs.Pieces.{lines_from, left_lines}
-use Rattle.runjob.specs.PieceView.{Room}
-use Rattle.runjob.specs.StartView.{Blank, pending_of, Starts}
-use Rattle.runjob.proofs.PieceLaws.{left-run, left-refused}
+use Rattle.runjob.specs.Pieces.{lines_from}
+use Rattle.runjob.specs.StartView.{pending_of, Starts}
+use Rattle.runjob.proofs.PieceLaws.{left-some}
 
 -- ---- the file's words
 
@@ -53,65 +53,12 @@ filled-take {b} {b2} {words} {n} f = ap (take n) (f.is ∙ logged-front b words)
 pub zeros : (n : ℕ) {s : List ℕ} → s ≡ replicate n 0 → length s ≡ n
 zeros n e = ap length e ∙ length-replicate {A = ℕ} n 0
 
-pub blank : {c : Code} {m : Memory} → c.opcodes ≡ replicate 1024 0 → c.arguments ≡ replicate 1024 0 → c.public ≡ replicate 5461 0 → c.secret ≡ replicate 5461 0 → c.digests ≡ replicate 7445 0 →
-    m.op_stack ≡ replicate 4096 0 → m.origins ≡ replicate 1024 0 → m.destinations ≡ replicate 1024 0 → m.addresses ≡ replicate 4096 0 → m.values ≡ replicate 4096 0 → m.output ≡ replicate 4096 0 → Blank c m
-blank o a u s d x i e r v w = record {
-  opcodes = omega (arith, zeros 1024 o);
-  arguments = omega (arith, zeros 1024 a);
-  public = omega (arith, zeros 5461 u);
-  secret = omega (arith, zeros 5461 s);
-  digests = omega (arith, zeros 7445 d);
-  op_stack = x;
-  origins = i;
-  destinations = e;
-  addresses = r;
-  values = v;
-  output = w;
-}
-
-pub room : (log text : List ℕ) → length log ≡ 524288 → length text ≡ 1675360 → Room log text
-room log text a b = record { few = omega (arith, a); step = omega (arith, a); lines = omega (arith, a, b) }
-
 -- ---- the number of what open answers
 
-abbrev number_by : Outcome → ℕ
-number_by (took x) = 0
-number_by (kept r) = r.number
-number_by (lost r x) = r.number
-
-abbrev number_of_answer : Answered → ℕ
-number_of_answer did = 0
-number_of_answer (turned r) = r.number
-
-number_is : (a : Answer) (o : Outcome) → answer_in a ≡ answered_by o → number_in a ≡ number_by o
-number_is a o e = left a ∙ ap number_of_answer e ∙ right o
-  where
-    left : (a : Answer) → number_in a ≡ number_of_answer (answer_in a)
-    left A.Took = refl
-    left (A.Refused x) = refl
-
-    right : (o : Outcome) → number_of_answer (answered_by o) ≡ number_by o
-    right (took x) = refl
-    right (kept r) = refl
-    right (lost r x) = refl
-
--- open took the job, or its number is not 0
-data Turns : Outcome → Type 0 where
-  opens : {x : Machine} → Turns (took x)
-  turns : {o : Outcome} → (number_by o ≡ 0 → ⊥) → Turns o
-
-open_turns : (g : List ℕ) (c : Code) (m : Memory) (n : ℕ) → Turns (open_of unpriced 1 g c m n)
-unfolding open_of
-open_turns g c m n = go (eqb (open_a 1 g c m n) 0) refl
-  where
-    go : (t : Bool) → eqb (open_a 1 g c m n) 0 ≡ t → Turns (cond t (took (opened 1 g c m n)) (kept (plainly (open_a 1 g c m n))))
-    go true e = opens
-    go false e = turns (eqb-false (open_a 1 g c m n) 0 e)
-
-refused-lines : (budget : ℕ) (o : Outcome) → (number_by o ≡ 0 → ⊥) → on_opened budget o ≡ not_opened (number_by o)
-refused-lines budget (took x) h = absurd (h refl)
-refused-lines budget (kept r) h = refl
-refused-lines budget (lost r x) h = refl
+refused-lines : (budget : ℕ) (r : Refusal) (o : Outcome) → turned r ≡ answered_by o → on_opened budget o ≡ not_opened r.number
+refused-lines budget r (took x) h = absurd (cc)
+refused-lines budget r (kept q) h = let e : r ≡ q = cc in ap (λ (x : Refusal). not_opened x.number) (sym e)
+refused-lines budget r (lost q x) h = let e : r ≡ q = cc in ap (λ (x : Refusal). not_opened x.number) (sym e)
 
 -- ---- the job's lines
 
@@ -132,30 +79,18 @@ module _ (j : Job) where
   abbrev Open : Outcome
   Open = open_of unpriced 1 j.digest (code_of j) (memory_of j) (length j.addresses)
 
-  not_opened_lem : (n : ℕ) → n ≡ first_of j.number (number_by Open) → (n ≡ 0 → ⊥) → job_lines j ≡ not_opened n
-  not_opened_lem n e h = go (eqb j.number 0) refl
-    where
-      go : (t : Bool) → eqb j.number 0 ≡ t → job_lines j ≡ not_opened n
-      go true q =
-          let z = eqb-true j.number 0 q in
-          let f : n ≡ number_by Open = e ∙ first_zero j.number (number_by Open) z in
-          good-lines j z ∙ refused-lines j.budget Open (λ k. h (f ∙ k)) ∙ ap not_opened (sym f)
-      go false q =
-          let z = eqb-false j.number 0 q in
-          bad-lines j z ∙ ap not_opened (sym (e ∙ first-left j.number (number_by Open) z))
-
   -- what an opened job prints, that its machine is sound and its log of revision 1
-  is-opened : (x : Machine) → left_by (machine no_state (code_of j) (memory_of j)) Open ≡ x → j.number ≡ 0 → number_by Open ≡ 0 → (job_lines j ≡ run_lines j.budget x) × Sound x × (x.state.revision ≡ 1)
+  is-opened : (x : Machine) → left_by (machine no_state (code_of j) (memory_of j)) Open ≡ x → j.number ≡ 0 → did ≡ answered_by Open → (job_lines j ≡ run_lines j.budget x) × Sound x × (x.state.revision ≡ 1)
   is-opened x l z k =
-      let q = go Open refl l (open_turns j.digest (code_of j) (memory_of j) (length j.addresses)) k in
+      let q = go Open refl l k in
       (good-lines j z ∙ q.0, q.1, q.2)
     where
-      go : (o : Outcome) → Open ≡ o → left_by (machine no_state (code_of j) (memory_of j)) o ≡ x → Turns o → number_by o ≡ 0 → (on_opened j.budget o ≡ run_lines j.budget x) × Sound x × (x.state.revision ≡ 1)
-      go (took y) e q t n =
+      go : (o : Outcome) → Open ≡ o → left_by (machine no_state (code_of j) (memory_of j)) o ≡ x → did ≡ answered_by o → (on_opened j.budget o ≡ run_lines j.budget x) × Sound x × (x.state.revision ≡ 1)
+      go (took y) e q n =
           let k = open_sound unpriced 1 j.digest (code_of j) (memory_of j) (length j.addresses) y e in
           (ap (run_lines j.budget) q, subst Sound q k.sound, subst (λ (z : Machine). z.state.revision ≡ 1) q k.revision)
-      go (kept r) e q (turns h) n = absurd (h n)
-      go (lost r y) e q (turns h) n = absurd (h n)
+      go (kept r) e q n = absurd (cc)
+      go (lost r y) e q n = absurd (cc)
 
 -- ---- the call
 
@@ -186,12 +121,9 @@ module _ (file : List ℕ) (j : JobFile) (l l2 : Lent) (s : Says (job_of file) j
           ap (λ (g : List ℕ). open_of unpriced 1 g Taken m j.cells) s.digest ∙ ap (λ (c : Code). open_of unpriced 1 (job_of file).digest c m j.cells) taken
           ∙ ap (λ (x : Memory). open_of unpriced 1 (job_of file).digest (code_of (job_of file)) x j.cells) lends ∙ ap (λ (n : ℕ). open_of unpriced 1 (job_of file).digest (code_of (job_of file)) (memory_of (job_of file)) n) s.addresses.count
 
-      module _ (r : Moved) (m2 : Memory) (o : Opens unpriced 1 j.digest Taken m j.cells r m2) (k n : ℕ) (answers : k ≡ number_in r.answer) (first : n ≡ first_of j.number k) where
-        by_open : k ≡ number_by (Open (job_of file))
-        by_open = answers ∙ number_is r.answer (open_of unpriced 1 j.digest Taken m j.cells) o.is.answer ∙ ap number_by same_open
-
-        number_of : n ≡ first_of (job_of file).number (number_by (Open (job_of file)))
-        number_of = first ∙ ap (λ (x : ℕ). first_of x k) s.number ∙ ap (first_of (job_of file).number) by_open
+      module _ (r : Moved) (m2 : Memory) (o : Opens unpriced 1 j.digest Taken m j.cells r m2) where
+        answer_is : answer_in r.answer ≡ answered_by (Open (job_of file))
+        answer_is = o.is.answer ∙ ap answered_by same_open
 
         left_is : left_by (machine no_state (code_of (job_of file)) (memory_of (job_of file))) (Open (job_of file)) ≡ machine r.state Taken m2
         left_is =
@@ -200,13 +132,12 @@ module _ (file : List ℕ) (j : JobFile) (l l2 : Lent) (s : Says (job_of file) j
             ∙ ap (λ (x : Memory). left_by (machine no_state (code_of (job_of file)) x) (open_of unpriced 1 j.digest Taken m j.cells)) lends
             ∙ ap (left_by (machine no_state (code_of (job_of file)) (memory_of (job_of file)))) same_open)
 
-        both : n ≡ 0 → (job_lines (job_of file) ≡ run_lines (job_of file).budget (machine r.state Taken m2)) × Sound (machine r.state Taken m2) × (r.state.revision ≡ 1)
-        both z = let h = first-nil (job_of file).number (number_by (Open (job_of file))) (sym number_of ∙ z) in is-opened (job_of file) (machine r.state Taken m2) left_is h.0 h.1
-
-        pub starts : j.budget < 18446744073709551616 → length m2.output ≡ 4096 → Starts file (pending_of j n r.state) (code l2.opcodes l2.arguments l2.public l2.secret l2.digests) m2
-        starts fits len =
+        pub starts_opened : r.answer ≡ A.Took → j.budget < 18446744073709551616 → length m2.output ≡ 4096 → Starts file (Ok (pending_of j r.state)) (code l2.opcodes l2.arguments l2.public l2.secret l2.digests) m2
+        starts_opened f fits len =
+            let x = machine r.state Taken m2 in
+            let both = is-opened (job_of file) x left_is s.number (sym (ap answer_in f) ∙ answer_is) in
             record {
-              is = go (eqb n 0) refl;
+              is = both.0 ∙ ap (λ (b : ℕ). run_lines b x) (sym s.budget) ∙ run-lines j.budget x ∙ sym (left-some (pending_of j r.state) (code l2.opcodes l2.arguments l2.public l2.secret l2.digests) m2);
               ready =
                   record {
                     opcodes = filled-inside s.opcodes;
@@ -214,19 +145,24 @@ module _ (file : List ℕ) (j : JobFile) (l l2 : Lent) (s : Says (job_of file) j
                     public = filled-inside s.public;
                     secret = filled-inside s.secret;
                     digests = filled-inside s.digests;
-                    sound = λ z. (both z).1;
-                    revision = λ z. (both z).2;
+                    sound = both.1;
+                    revision = both.2;
                     output = omega (arith, len);
                     steps = omega (arith, fits);
                   };
             }
-          where
-            whole : Code
-            whole = code l2.opcodes l2.arguments l2.public l2.secret l2.digests
 
-            go : (t : Bool) → eqb n 0 ≡ t → job_lines (job_of file) ≡ left_lines (pending_of j n r.state) whole m2
-            go true q =
-                let z = eqb-true n 0 q in
-                let x = machine r.state Taken m2 in
-                (both z).0 ∙ ap (λ (b : ℕ). run_lines b x) (sym s.budget) ∙ run-lines j.budget x ∙ sym (left-run (pending_of j n r.state) whole m2 z)
-            go false q = let z = eqb-false n 0 q in not_opened_lem (job_of file) n number_of z ∙ sym (left-refused (pending_of j n r.state) whole m2 refl z)
+        pub starts_refused : (e : InstructionError) {c : Code} → r.answer ≡ A.Refused e → Starts file (Err (N.Refused e)) c m2
+        starts_refused e f =
+            record {
+              is = good-lines (job_of file) s.number ∙ refused-lines (job_of file).budget (refusal_of e) (Open (job_of file)) (sym (ap answer_in f) ∙ answer_is);
+              ready = tt;
+            }
+
+-- a broken file
+starts_broken : (file : List ℕ) {l l2 : Lent} (b : BrokenFile) {c : Code} {m : Memory} → Breaks (job_of file) l l2 → Starts file (Err (N.Broken b)) c m
+starts_broken file b s = record { is = bad-lines (job_of file) (λ z. omega (arith, s.number)) ∙ ap not_opened s.number; ready = tt }
+
+pub starts_so : (file : List ℕ) {l l2 : Lent} {c : Code} {m : Memory} (b : BrokenFile) (r : Result Pending NotOpened) → Breaks (job_of file) l l2 → IsErrAnd r (λ x. x ≡ N.Broken b) → Starts file r c m
+starts_so file b (Ok x) s h = absurd h
+starts_so file b (Err x) s h = rw h (starts_broken file b s)

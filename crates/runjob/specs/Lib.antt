@@ -1,4 +1,5 @@
 -- What the contracts cite.
+pub mod SpaceView
 pub mod Refusals
 pub mod Pieces
 pub mod PieceView

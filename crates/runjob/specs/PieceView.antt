@@ -1,51 +1,65 @@
 -- What a piece relies on, and what it writes.
-use Rattle.std.specs.Prelude.{◌≡◌, false, List, [], ◌++◌, ℕ, ◌+◌, ◌*◌, ◌<◌, ◌≤◌, suc, length, take}
-use Rattle.choices.specs.Choice.{cond}
+use Rattle.std.specs.Prelude.{◌≡◌, true, false, List, [], ◌++◌, ℕ, ◌+◌, ◌<◌, ◌≤◌, suc, length, Option, None, Some, IfSome, MatchOption, Result, MatchResult}
+use Rattle.std.specs.Io.KnownBytes.{Appends}
 use Rattle.machine.specs.Machine.{Code, Memory}
-use Rattle.machine.specs.PlaceA.{longest}
+use Rattle.machine.specs.Path.{Ending}
 use Rattle.machine.specs.Sound.{Sound}
-use Rattle.machine_steps.specs.declared.answer.Ran.{Ran}
+use Rattle.job.specs.declared.listing.Counts.{Counts}
+use Rattle.job.specs.declared.listing.EndLine.{EndLine}
+use Rattle.job.specs.ListingView.{end_text}
+use Rattle.job.specs.Printed.{end_line, not_opened}
 use Rattle.runjob.specs.declared.pending.Pending.{Pending}
-use Rattle.runjob.specs.Pieces.{machine_for, left_lines}
+use Rattle.runjob.specs.declared.refusals.NotOpened.{NotOpened}
+use Rattle.runjob.specs.Refusals.{number_of}
+use Rattle.runjob.specs.Pieces.{machine_for, left_lines, is_full}
 
--- a log that holds a step's records and is no longer than a call allows, and a text for the lines of so long a log, 4,096 words and the end
-pub record Room (log text : List ℕ) : Type 0 where
-  pub few : length log ≤ longest
-  pub step : 1024 ≤ length log
-  pub lines : 3 * length log + 102496 ≤ length text
+-- l is the end line of a run that ended so; none where the log was full
+abbrev pub EndsWith : Ending → Counts → Option EndLine → Type 0
+EndsWith e c l = MatchOption l (is_full e ≡ true) (λ x. (is_full e ≡ false) × (end_text x ≡ end_line e c.steps c.pointer c.depth))
 
--- the lines of t's steps, its log and its output fit, and so does the count of steps
-pub record Holds (text log output : List ℕ) (done : ℕ) (t : Ran) : Type 0 where
-  pub bytes : t.bytes ≤ length log
-  pub outputs : t.state.outputs ≤ length output
-  pub steps : done + t.count < 18446744073709551616
-  pub lines : 3 * t.bytes + 25 * t.state.outputs + 96 ≤ length text
-
--- the words of the job j are inside what is lent, its machine is sound if it is opened, with a log of revision 1 and at most 4,096 output words,
--- and its steps can be counted
+-- the words of the job j are inside what is lent, its machine is sound, with a log of revision 1 and at most 4,096 output words, and its steps can
+-- be counted
 pub record Ready (j : Pending) (c : Code) (m : Memory) : Type 0 where
   pub opcodes : j.slots ≤ length c.opcodes
   pub arguments : j.slots ≤ length c.arguments
   pub public : j.publics ≤ length c.public
   pub secret : j.secrets ≤ length c.secret
   pub digests : j.digests ≤ length c.digests
-  pub sound : j.number ≡ 0 → Sound (machine_for j c m)
-  pub revision : j.number ≡ 0 → j.state.revision ≡ 1
+  pub sound : Sound (machine_for j c m)
+  pub revision : j.state.revision ≡ 1
   pub output : length m.output ≤ 4096
   pub steps : j.done + j.budget < 18446744073709551616
 
 -- how many pieces may follow
-abbrev pub pieces : Pending → ℕ
-pieces j = cond j.more (suc j.budget) 0
+abbrev pub pieces : Option Pending → ℕ
+pieces None = 0
+pieces (Some j) = suc j.budget
 
--- what is left to print of the job j is what stands at the start of the text, and behind it what is left of r
-pub record Writes (j : Pending) (c : Code) (m : Memory) (r : Pending) (n : Memory) (text : List ℕ) : Type 0 where
-  pub is : left_lines j c m ≡ take r.bytes text ++ left_lines r c n
-  pub bytes : r.bytes ≤ length text
-  pub less : pieces r < pieces j
-  pub ready : Ready r c n
+-- what is left to print of the job j is a text, and behind it what is left of r
+pub record Writes (j : Pending) (c : Code) (m : Memory) (r : Option Pending) (n : Memory) (text : List ℕ) : Type 0 where
+  pub is : left_lines (Some j) c m ≡ text ++ left_lines r c n
+  pub less : pieces r < pieces (Some j)
+  pub ready : IfSome r (λ k. Ready k c n)
+
+-- a text grew by the first lines; they, and what is left of r, are what is printed
+pub record Begins (old new printed : List ℕ) (r : Option Pending) (c : Code) (m : Memory) : Type 0 where
+  pub own : List ℕ
+  pub grown : new ≡ old ++ own
+  pub is : printed ≡ own ++ left_lines r c m
+  pub ready : IfSome r (λ j. Ready j c m)
+
+-- known bytes grew by a text; it, and what is left of r, are what is printed
+pub record Wrote (old new : Option (List ℕ)) (printed : List ℕ) (r : Option Pending) (c : Code) (m : Memory) : Type 0 where
+  pub text : List ℕ
+  pub grown : Appends old new text
+  pub is : printed ≡ text ++ left_lines r c m
+  pub ready : IfSome r (λ j. Ready j c m)
 
 -- what pieces write one behind the other, each from what the one before it left, while there are more
-pub data Prints (c : Code) : Pending → Memory → List ℕ → Type 0 where
-  none : {j : Pending} {m : Memory} → j.more ≡ false → Prints c j m []
-  next : {j r : Pending} {m n : Memory} {text rest : List ℕ} → Writes j c m r n text → Prints c r n rest → Prints c j m (take r.bytes text ++ rest)
+pub data Prints (c : Code) : Option Pending → Memory → List ℕ → Type 0 where
+  none : {m : Memory} → Prints c None m []
+  next : {j : Pending} {r : Option Pending} {m n : Memory} {text rest : List ℕ} → Writes j c m r n text → Prints c r n rest → Prints c (Some j) m (text ++ rest)
+
+-- the pieces of a job that was opened, or the line of the refusal
+abbrev pub PrintsJob : Code → Result Pending NotOpened → Memory → List ℕ → Type 0
+PrintsJob c r m t = MatchResult r (λ j. Prints c (Some j) m t) (λ e. t ≡ not_opened (number_of e))

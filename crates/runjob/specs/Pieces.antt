@@ -1,15 +1,16 @@
 -- What runjob prints, piece by piece.
-use Rattle.std.specs.Prelude.{Bool, true, false, List, [], ◌++◌, ℕ, ◌+◌, ◌-◌, take, eqb}
+use Rattle.std.specs.Prelude.{Bool, true, false, List, [], ◌++◌, ℕ, ◌+◌, ◌-◌, take, Option, None, Some, Result, Ok, Err}
 use Rattle.machine.specs.declared.state.VMState.{VMState}
 use Rattle.choices.specs.Choice.{cond}
 use Rattle.machine.specs.Machine.{Code, Memory, Machine, machine, code}
 use Rattle.machine.specs.Decide.{decide_of}
 use Rattle.machine.specs.Path.{Ending, halted, spent, full, refused, count, unlogged, path_by}
 use Rattle.machine_steps.specs.declared.answer.Ran.{Ran}
-use Rattle.machine_steps.specs.RanView.{ending_in}
 use Rattle.job.specs.LogLines.{log_lines}
 use Rattle.job.specs.Printed.{out_lines, end_line, not_opened, path_lines}
 use Rattle.runjob.specs.declared.pending.Pending.{Pending}
+use Rattle.runjob.specs.declared.refusals.NotOpened.{NotOpened}
+use Rattle.runjob.specs.Refusals.{number_of}
 
 -- ---- what is left to print
 
@@ -24,9 +25,15 @@ code_for j c = code (take j.slots c.opcodes) (take j.slots c.arguments) (take j.
 abbrev pub machine_for : Pending → Code → Memory → Machine
 machine_for j c m = machine j.state (code_for j c) m
 
--- nothing more, or the lines of the steps that are left, or the line of the refusal
-unfoldable pub left_lines : Pending → Code → Memory → List ℕ
-left_lines j c m = cond j.more (cond (eqb j.number 0) (lines_from j.done j.budget (machine_for j c m)) (not_opened j.number)) []
+-- nothing more, or the lines of the steps that are left
+unfoldable pub left_lines : Option Pending → Code → Memory → List ℕ
+left_lines None c m = []
+left_lines (Some j) c m = lines_from j.done j.budget (machine_for j c m)
+
+-- of a job that was opened, or the line of the refusal
+abbrev pub start_lines : Result Pending NotOpened → Code → Memory → List ℕ
+start_lines (Ok j) c m = left_lines (Some j) c m
+start_lines (Err e) c m = not_opened (number_of e)
 
 -- ---- a piece
 
@@ -40,26 +47,10 @@ is_full (refused r) = false
 unfoldable pub piece_lines : List ℕ → List ℕ → Ending → ℕ → VMState → List ℕ
 piece_lines log output e n s = log_lines log ++ cond (is_full e) [] (out_lines (take s.outputs output) ++ end_line e n s.pointer s.depth)
 
--- the job j after its last lines, and after the lines of the steps in t
-abbrev pub ended_with : Pending → ℕ → Pending
-ended_with j n =
+-- the job j after the steps in t
+abbrev pub moved_on : Pending → Ran → Pending
+moved_on j t =
     record {
-      number = j.number;
-      slots = j.slots;
-      publics = j.publics;
-      secrets = j.secrets;
-      digests = j.digests;
-      done = j.done;
-      budget = j.budget;
-      state = j.state;
-      bytes = n;
-      more = false;
-    }
-
-abbrev pub moved_on : Pending → Ran → ℕ → Pending
-moved_on j t n =
-    record {
-      number = j.number;
       slots = j.slots;
       publics = j.publics;
       secrets = j.secrets;
@@ -67,6 +58,4 @@ moved_on j t n =
       done = j.done + t.count;
       budget = j.budget - t.count;
       state = t.state;
-      bytes = n;
-      more = is_full (ending_in t.ending);
     }

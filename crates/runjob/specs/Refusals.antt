@@ -1,10 +1,9 @@
--- A refusal's number in what the calls answer.
+-- The number of a job that is not opened.
 use Rattle.std.specs.Prelude.{ℕ}
 use Rattle.machine.specs.Refusal.{refusal_of}
-use Rattle.machine_perform.specs.declared.answer.Answer.{Answer}
-use Rattle.machine_perform.specs.declared.answer.Answer.TheVariants.{Took, Refused}
+use Rattle.runjob.specs.declared.refusals.NotOpened.{NotOpened}
+use Rattle.runjob.specs.declared.refusals.NotOpened.TheVariants.{Broken, Refused}
 
--- 0 where nothing was refused
-abbrev pub number_in : Answer → ℕ
-number_in Took = 0
-number_in (Refused e) = (refusal_of e).number
+abbrev pub number_of : NotOpened → ℕ
+number_of (Broken b) = 50
+number_of (Refused e) = (refusal_of e).number

@@ -1,4 +1,4 @@
-// A job of which lines are still to be printed.
+// An opened job of which lines are still to be printed.
 pub mod piece;
 pub mod start;
 
@@ -7,8 +7,6 @@ use machine::state::VMState;
 // Only `start` makes one and only `piece` goes on with it: who prints the text cannot name or change what the next lines depend on.
 #[derive(Clone, Copy)]
 pub struct Pending {
-    // 0 if the job is opened, else why not.
-    number: u64,
     // How many words of the slices are its program and inputs.
     slots: usize,
     publics: usize,
@@ -18,7 +16,4 @@ pub struct Pending {
     done: u64,
     budget: u64,
     state: VMState,
-    // How many bytes of the text are to be written now, and whether more are to come.
-    pub bytes: usize,
-    pub more: bool,
 }

@@ -1,10 +1,10 @@
-// Document 01's number of a refusal.
+// Why a job ends, or is not opened, and document 01's number of it.
 ghost use Rattle.std.specs.Prelude.{◌≡◌};
 ghost use Rattle.machine.specs.Refusal.{refusal_of};
-ghost use Rattle.runjob.specs.Refusals.{number_in};
+ghost use Rattle.runjob.specs.Refusals.{number_of};
 
+use job::job_file::BrokenFile;
 use machine::refusal::InstructionError;
-use machine_perform::answer::Answer;
 use machine_refusals::refusals::numbered;
 
 pub fn number(error: InstructionError) -> u64
@@ -14,12 +14,30 @@ pub fn number(error: InstructionError) -> u64
     r.number
 }
 
-// 0 where nothing was refused.
-pub fn number_in(answer: Answer) -> u64
-    ensures { result ≡ number_in answer }
-{
-    match answer {
-        Answer::Took => 0,
-        Answer::Refused(error) => number(error),
+// The file is broken, or open refuses the job that it says.
+#[derive(Clone, Copy)]
+pub enum NotOpened {
+    Broken(BrokenFile),
+    Refused(InstructionError),
+}
+
+impl NotOpened {
+    pub fn number(self) -> u64
+        ensures { result ≡ number_of self }
+    {
+        match self {
+            NotOpened::Broken(broken) => broken.number(),
+            NotOpened::Refused(error) => number(error),
+        }
+    }
+}
+
+impl From<BrokenFile> for NotOpened {
+    ghost use Rattle.runjob.specs.declared.refusals.NotOpened.TheVariants.{Broken};
+
+    ghost from_gives = { λ broken r. r ≡ Broken broken };
+
+    fn from(broken: BrokenFile) -> NotOpened {
+        NotOpened::Broken(broken)
     }
 }

@@ -1,21 +1,11 @@
 -- What was written and what is left to print are what the file's job prints. The pieces that may follow get fewer.
-use Rattle.std.proofs.Common.{take}
-use Rattle.machine.specs.Machine.{code, memory}
 use Rattle.job.specs.Printed.{printed_of}
-use Rattle.runjob.specs.Pieces.{left_lines}
-use Rattle.runjob.specs.PieceView.{Room, Ready, pieces}
-use Rattle.runjob.proofs.Writing.{Wrote}
+use Rattle.runjob.specs.SpaceView.{space_code, space_memory}
+use Rattle.runjob.specs.PieceView.{Wrote, pieces}
 use Rattle.runjob.proofs.print_job.Given as goal
 
-abbrev pub invariant-loop-job : goal.invariant-loop-job
-invariant-loop-job g l =
-    let c = code l.opcodes l.arguments l.public l.secret l.digests in
-    let m = memory l.op_stack l.origins l.destinations l.addresses l.values l.output in
-    record {
-      ready : Ready l.job c m;
-      room : Room l.log l.text;
-      wrote : Wrote (g.W.Write.contents l.initial.out) (g.W.Write.contents l.out) (printed_of (take l.n l.file)) (left_lines l.job c m);
-    }
+abbrev pub invariant-loop-next : goal.invariant-loop-next
+invariant-loop-next g l = Wrote (g.W.Write.contents l.fn.out) (g.W.Write.contents l.out) (printed_of l.file) l.next (space_code l.space) (space_memory l.space)
 
-abbrev pub decreases-loop-job : goal.decreases-loop-job
-decreases-loop-job g l = pieces l.job
+abbrev pub decreases-loop-next : goal.decreases-loop-next
+decreases-loop-next g l = pieces l.next

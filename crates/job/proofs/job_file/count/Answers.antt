@@ -1,34 +1,19 @@
-use native.Mathlib.Omega.{arith}
-use Rattle.job.proofs.JobFileLaws.{place-next, count-few, count-more, count-all}
+use Rattle.std.proofs.Common.{sym, ◌∙◌, arith}
+use Rattle.job.proofs.JobFileLaws.{count-step, count-all, shorter}
 use Rattle.job.proofs.job_file.count.Goals as goal
 
-pub loop-at-init : goal.loop-at-init
-loop-at-init c = (omega arith, omega arith, omega arith)
+pub loop-piece-preserved-then-same_kind : goal.loop-piece-preserved-then-same_kind
+loop-piece-preserved-then-same_kind c =
+    let i = c.loop-piece.invariant in
+    let s = c.in-Some.ensures.steps in
+    (omega (arith, i.0, shorter _ _ s.0 s.2), count-step _ _ _ _ _ _ _ s.0 s.1.0 (sym c.same_kind.ensures ∙ c.if-same_kind.true) s.2 i.1)
 
-pub overflow_add-at : goal.overflow_add-at
-overflow_add-at c =
-    let p = c.piece_at-p in
-    let w = place-next c.args.file.now c.loop-at.at p.result.size p.ensures.1 (omega arith) in
-    omega (arith, w.1)
-
-pub loop-at-smaller : goal.loop-at-smaller
-loop-at-smaller c =
-    let l = c.loop-at in
-    let a = c.args in
-    let p = c.piece_at-p in
-    let w = place-next a.file.now l.at p.result.size p.ensures.1 (omega arith) in
-    omega (arith, w.1)
-
-pub loop-at-preserved : goal.loop-at-preserved
-loop-at-preserved c =
-    let l = c.loop-at in
-    let a = c.args in
-    let p = c.piece_at-p in
-    let w = place-next a.file.now l.at p.result.size p.ensures.1 (omega arith) in (
-      omega (arith, w.1),
-      omega (arith, w.0, count-few p.result.kind a.kind _ c.same-n.ensures),
-      count-more a.file.now l.at p.result.size a.kind p.result.kind l.n _ _ p.ensures.1 c.loop-at-test.true p.ensures.0 c.same-n.ensures l.invariant.2,
-    )
+pub loop-piece-preserved : goal.loop-piece-preserved
+loop-piece-preserved c =
+    let i = c.loop-piece.invariant in
+    let s = c.in-Some.ensures.steps in
+    let h = count-step _ _ _ _ _ _ _ s.0 s.1.0 (sym c.same_kind.ensures ∙ c.if-same_kind.false) s.2 i.1 in
+    (omega (arith, i.0, shorter _ _ s.0 s.2), omega (arith, h))
 
 pub returns : goal.returns
-returns c = let a = c.args in count-all a.file.now c.loop-at.at a.kind _ _ (omega arith) c.loop-at.invariant.2
+returns c = count-all _ _ _ _ c.in-None.ensures.steps.0 c.loop-piece.invariant.1

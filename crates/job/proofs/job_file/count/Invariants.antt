@@ -1,11 +1,8 @@
-use mathlib.Core.Path.{◌≡◌}
-use Prim.Native.Nat.{◌+◌, ◌-◌, ◌≤◌}
-use lib.ListN.{length, drop}
+use Rattle.std.proofs.Common.{◌≡◌, ◌+◌, ◌≤◌, length}
 use Rattle.job.specs.JobFile.{pieces_of, count_of}
+use Rattle.job.specs.JobFileView.{piece_number}
 use Rattle.job.proofs.job_file.count.Given as goal
 
-abbrev pub invariant-loop-at : goal.invariant-loop-at
-invariant-loop-at l = (l.at ≤ length l.file) × (l.n ≤ l.at) × (l.n + count_of l.kind (pieces_of (drop l.at l.file)) ≡ count_of l.kind (pieces_of l.file))
-
-abbrev pub decreases-loop-at : goal.decreases-loop-at
-decreases-loop-at l = length l.file - l.at
+abbrev pub invariant-loop-piece : goal.invariant-loop-piece
+invariant-loop-piece l =
+    (l.n + length l.piece-iterator.0.now ≤ length l.file) × (l.n + count_of (piece_number l.kind) (pieces_of l.piece-iterator.0.now) ≡ count_of (piece_number l.kind) (pieces_of l.file))

@@ -1,51 +1,42 @@
-use mathlib.Core.Path.{◌≡◌, refl, sym, ◌∙◌}
-use Rattle.job.specs.JobFile.{fault_of}
-use Rattle.job.proofs.JobFileLaws.{wanted_public, wanted_secret, wanted_digests, job_good, job-broken, says-broken}
+use Rattle.std.proofs.Common.{refl, ◌∙◌}
+use Rattle.job.proofs.JobFileLaws.{wanted-opcodes, wanted_arguments, wanted_public, wanted_secret, wanted_digests, wanted_addresses, wanted_values, job_good, breaks, filled-count, column-same}
 use Rattle.job.proofs.job_file.read_job.Goals as goal
 
-pub returns-then-number-ne0 : goal.returns-then-number-ne0
-returns-then-number-ne0 c =
-    let e = c.fault-number.ensures in
-    says-broken (job-broken c.args.file.now _ e c.if-number-ne0.true) c.broken.ensures
+pub returns-in_err-checked-clause-job : goal.returns-in_err-checked-clause-job
+returns-in_err-checked-clause-job c = breaks _ _ _ c.in_err-checked.ensures _ c.from_residual.ensures.0
 
-pub column-publics-requires : goal.column-publics-requires
-column-publics-requires c =
-    let e : fault_of c.args.file.now ≡ 0 = sym c.fault-number.ensures ∙ c.if-number-ne0.false in
-    wanted_public _ _ e c.requires.public
+pub fill-slots-requires : goal.fill-slots-requires
+fill-slots-requires c = wanted-opcodes _ _ c.in_ok-checked.ensures c.requires.opcodes
 
-pub column-secrets-requires : goal.column-secrets-requires
-column-secrets-requires c =
-    let e : fault_of c.args.file.now ≡ 0 = sym c.fault-number.ensures ∙ c.if-number-ne0.false in
-    wanted_secret _ _ e c.requires.secret
+pub fill-requires : goal.fill-requires
+fill-requires c = wanted_arguments _ _ c.in_ok-checked.ensures c.requires.arguments
 
-pub column-words-requires : goal.column-words-requires
-column-words-requires c =
-    let e : fault_of c.args.file.now ≡ 0 = sym c.fault-number.ensures ∙ c.if-number-ne0.false in
-    wanted_digests _ _ e c.requires.digests
+pub fill-publics-requires : goal.fill-publics-requires
+fill-publics-requires c = wanted_public _ _ c.in_ok-checked.ensures c.requires.public
 
-pub cells_of-cells-requires : goal.cells_of-cells-requires
-cells_of-cells-requires c =
-    let e : fault_of c.args.file.now ≡ 0 = sym c.fault-number.ensures ∙ c.if-number-ne0.false in
-    (e, c.requires.addresses, c.requires.values)
+pub fill-secrets-requires : goal.fill-secrets-requires
+fill-secrets-requires c = wanted_secret _ _ c.in_ok-checked.ensures c.requires.secret
 
-pub budget_of-requires : goal.budget_of-requires
-budget_of-requires c =
-    let e : fault_of c.args.file.now ≡ 0 = sym c.fault-number.ensures ∙ c.if-number-ne0.false in
-    e
+pub fill-digests-requires : goal.fill-digests-requires
+fill-digests-requires c = wanted_digests _ _ c.in_ok-checked.ensures c.requires.digests
 
-pub returns : goal.returns
-returns c =
-    let e : fault_of c.args.file.now ≡ 0 = sym c.fault-number.ensures ∙ c.if-number-ne0.false in
-    rw (job_good c.args.file.now e)
+pub fill-cells-requires : goal.fill-cells-requires
+fill-cells-requires c = wanted_addresses _ _ c.in_ok-checked.ensures c.requires.addresses
+
+pub fill-requires-2 : goal.fill-requires-2
+fill-requires-2 c = wanted_values _ _ c.in_ok-checked.ensures c.requires.values
+
+pub returns-clause-job : goal.returns-clause-job
+returns-clause-job c = rw (job_good c.args.file.now c.in_ok-checked.ensures)
     (record {
       number = refl;
-      digest = c.digest_of-digest.ensures;
-      opcodes = c.slots_of-slots.ensures.filled;
-      arguments = c.slots_of-slots.ensures.filled_2;
-      public = c.column-publics.ensures;
-      secret = c.column-secrets.ensures;
-      digests = c.column-words.ensures;
-      addresses = c.cells_of-cells.ensures.filled;
-      values = c.cells_of-cells.ensures.filled_2;
+      digest = c.digest_of.ensures;
+      opcodes = c.fill-slots.ensures;
+      arguments = filled-count c.fill.ensures (c.fill-slots.ensures.count ∙ column-same 12 0 2 2 8 _);
+      public = c.fill-publics.ensures;
+      secret = c.fill-secrets.ensures;
+      digests = c.fill-digests.ensures;
+      addresses = c.fill-cells.ensures;
+      values = filled-count c.fill-2.ensures (c.fill-cells.ensures.count ∙ column-same 16 0 8 8 8 _);
       budget = c.budget_of.ensures;
     })

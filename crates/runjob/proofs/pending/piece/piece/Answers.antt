@@ -1,40 +1,37 @@
-use lib.Seq.{length-take-le}
-use Rattle.runjob.proofs.PieceLaws.{piece-holds, piece_counts, piece-writes, refusal-writes}
-use native.Mathlib.Omega.{arith}
-use mathlib.Core.Path.{sym}
+use Rattle.std.proofs.Common.{◌≡◌, ◌++◌, List, ℕ, take, rules, arith, refl, ap, ◌∙◌, append_assoc, string_bytes}
+use Rattle.job.specs.LogLines.{log_lines}
+use Rattle.job.specs.ListingView.{end_text}
+use Rattle.job.specs.Printed.{out_lines}
+use Rattle.runjob.proofs.PieceLaws.{piece-holds, piece-full, piece-ended}
 use Rattle.runjob.proofs.pending.piece.piece.Goals as goal
 
-pub returns-then-job-ne0 : goal.returns-then-job-ne0
-returns-then-job-ne0 c = rw c.ended.ensures (refusal-writes _ _ _ c.requires.ready c.requires.more_value.0 c.if-job-ne0.true c.refused_line-refused.ensures)
+pub shared_ref_as_front-log : goal.shared_ref_as_front-log
+shared_ref_as_front-log c = search (rules, (piece-holds _ _ _ _ _ _ _ c.requires (search rules) c.trace_execution-t.ensures).0)
 
-pub slice_bounds-trace_execution-end : goal.slice_bounds-trace_execution-end
-slice_bounds-trace_execution-end c = sym (length-take-le _ _ c.requires.ready.opcodes)
+pub overflow_add-done : goal.overflow_add-done
+overflow_add-done c = omega (arith, (piece-holds _ _ _ _ _ _ _ c.requires (search rules) c.trace_execution-t.ensures).2)
 
-pub slice_bounds-trace_execution-end-2 : goal.slice_bounds-trace_execution-end-2
-slice_bounds-trace_execution-end-2 c = sym (length-take-le _ _ c.requires.ready.arguments)
+pub overflow_sub-result : goal.overflow_sub-result
+overflow_sub-result c = (piece-holds _ _ _ _ _ _ _ c.requires (search rules) c.trace_execution-t.ensures).3
 
-pub slice_bounds-trace_execution-end-3 : goal.slice_bounds-trace_execution-end-3
-slice_bounds-trace_execution-end-3 c = sym (length-take-le _ _ c.requires.ready.public)
+pub shared_ref_as_front-words : goal.shared_ref_as_front-words
+shared_ref_as_front-words c = search (rules, (piece-holds _ _ _ _ _ _ _ c.requires (search rules) c.trace_execution-t.ensures).1)
 
-pub slice_bounds-trace_execution-end-4 : goal.slice_bounds-trace_execution-end-4
-slice_bounds-trace_execution-end-4 c = sym (length-take-le _ _ c.requires.ready.secret)
+pub returns-in-None : goal.returns-in-None
+returns-in-None c =
+    let log = take c.trace_execution-t.result.bytes c.trace_execution-t.new.b in
+    (log_lines log, search rules, piece-full _ _ _ _ _ _ _ c.requires (search rules) c.trace_execution-t.ensures c.in-None.ensures (search rules), refl)
 
-pub slice_bounds-trace_execution-end-5 : goal.slice_bounds-trace_execution-end-5
-slice_bounds-trace_execution-end-5 c = sym (length-take-le _ _ c.requires.ready.digests)
-
-pub put_lines-bytes-requires : goal.put_lines-bytes-requires
-put_lines-bytes-requires c =
-    let y = c.requires in
-    let w = c.trace_execution-t in
-    piece-holds _ _ _ _ _ _ _ _ y.ready y.more_value.1 (omega (arith, c.if-job-ne0.false)) w.ensures (omega (arith, w.auto)) (omega (arith, w.auto))
-
-pub moved_on-requires : goal.moved_on-requires
-moved_on-requires c =
-    let y = c.requires in
-    piece_counts _ _ _ _ _ _ _ _ y.ready y.more_value.1 (omega (arith, c.if-job-ne0.false)) c.trace_execution-t.ensures
-
-pub returns : goal.returns
-returns c =
-    let y = c.requires in
-    let w = c.trace_execution-t in
-    rw c.moved_on.ensures (piece-writes _ _ _ _ _ _ _ _ y.ready y.more_value.1 (omega (arith, c.if-job-ne0.false)) w.ensures y.more_value.0 (omega (arith, w.auto)) c.put_lines-bytes.ensures)
+pub returns-in_ok-write-in-Some : goal.returns-in_ok-write-in-Some
+returns-in_ok-write-in-Some c =
+    let t = c.trace_execution-t.result in
+    let log = take t.bytes c.trace_execution-t.new.b in
+    let words = take t.state.outputs c.trace_execution-t.new.output in
+    let ends = end_text c.in-Some.end in
+    let e1 : string_bytes c.write.new.self ≡ string_bytes c.args.text.now ++ log_lines log = search rules in
+    let e2 : string_bytes c.write-in-Some.new.self ≡ string_bytes c.write.new.self ++ (out_lines words ++ ends) = search rules in (
+      log_lines log ++ (out_lines words ++ ends),
+      e2 ∙ ap (λ (u : List ℕ). u ++ (out_lines words ++ ends)) e1 ∙ append_assoc (string_bytes c.args.text.now) (log_lines log) (out_lines words ++ ends),
+      piece-ended _ _ _ _ _ _ _ c.requires (search rules) c.trace_execution-t.ensures c.in-Some.ensures.0 c.in-Some.ensures.1 refl,
+      refl,
+    )

@@ -1,61 +1,31 @@
-use lib.ListN.{take}
-use lib.Seq.{length-take-le}
-use Rattle.runjob.proofs.StartLaws.{filled-inside, zeros, starts}
-use native.Mathlib.Omega.{arith}
-use mathlib.Core.Path.{refl, sym}
-use borrow.Author.Rules.{rules}
+use Rattle.std.proofs.Common.{refl, arith}
+use Rattle.runjob.proofs.StartLaws.{filled-inside, zeros, starts_opened, starts_refused, starts_so}
 use Rattle.runjob.proofs.pending.start.start.Goals as goal
 
-pub slice_bounds-read_job-end : goal.slice_bounds-read_job-end
-slice_bounds-read_job-end c = sym (length-take-le _ _ (search rules))
+pub returns-in_err-j : goal.returns-in_err-j
+returns-in_err-j c = starts_so _ _ _ c.in_err-j.ensures.job c.from_residual.ensures.1
 
-pub read_job-j-requires : goal.read_job-j-requires
-read_job-j-requires c =
-    let b = c.requires.blank in
-    record {
-      opcodes = b.opcodes;
-      arguments = b.arguments;
-      public = b.public;
-      secret = b.secret;
-      digests = b.digests;
-      addresses = omega (arith, zeros 4096 b.addresses);
-      values = omega (arith, zeros 4096 b.values);
-    }
+pub shared_ref_as_front-open : goal.shared_ref_as_front-open
+shared_ref_as_front-open c = omega (arith, filled-inside c.in_ok-j.ensures.job.opcodes, c.in_ok-j.ensures.lengths.opcodes)
 
-pub slice_bounds-open-end : goal.slice_bounds-open-end
-slice_bounds-open-end c = filled-inside c.read_job-j.ensures.opcodes
+pub shared_ref_as_front-open-2 : goal.shared_ref_as_front-open-2
+shared_ref_as_front-open-2 c = omega (arith, filled-inside c.in_ok-j.ensures.job.arguments, c.in_ok-j.ensures.lengths.arguments)
 
-pub slice_bounds-open-end-2 : goal.slice_bounds-open-end-2
-slice_bounds-open-end-2 c = sym (length-take-le _ _ (filled-inside c.read_job-j.ensures.opcodes))
+pub shared_ref_as_front-open-3 : goal.shared_ref_as_front-open-3
+shared_ref_as_front-open-3 c = omega (arith, filled-inside c.in_ok-j.ensures.job.public, c.in_ok-j.ensures.lengths.public)
 
-pub slice_bounds-open-end-3 : goal.slice_bounds-open-end-3
-slice_bounds-open-end-3 c = filled-inside c.read_job-j.ensures.arguments
+pub shared_ref_as_front-open-4 : goal.shared_ref_as_front-open-4
+shared_ref_as_front-open-4 c = omega (arith, filled-inside c.in_ok-j.ensures.job.secret, c.in_ok-j.ensures.lengths.secret)
 
-pub slice_bounds-open-end-4 : goal.slice_bounds-open-end-4
-slice_bounds-open-end-4 c = sym (length-take-le _ _ (filled-inside c.read_job-j.ensures.arguments))
+pub shared_ref_as_front-open-5 : goal.shared_ref_as_front-open-5
+shared_ref_as_front-open-5 c = omega (arith, filled-inside c.in_ok-j.ensures.job.digests, c.in_ok-j.ensures.lengths.digests)
 
-pub slice_bounds-open-end-5 : goal.slice_bounds-open-end-5
-slice_bounds-open-end-5 c = filled-inside c.read_job-j.ensures.public
+pub returns-in-Took : goal.returns-in-Took
+returns-in-Took c =
+    let b = c.requires in
+    starts_opened _ _ _ _ c.in_ok-j.ensures.job _ b.op_stack b.origins b.destinations b.output b.addresses b.values refl refl c.open-m.result _ c.open-m.ensures c.in-Took.is (omega arith) (zeros 4096 b.output)
 
-pub slice_bounds-open-end-6 : goal.slice_bounds-open-end-6
-slice_bounds-open-end-6 c = sym (length-take-le _ _ (filled-inside c.read_job-j.ensures.public))
-
-pub slice_bounds-open-end-7 : goal.slice_bounds-open-end-7
-slice_bounds-open-end-7 c = filled-inside c.read_job-j.ensures.secret
-
-pub slice_bounds-open-end-8 : goal.slice_bounds-open-end-8
-slice_bounds-open-end-8 c = sym (length-take-le _ _ (filled-inside c.read_job-j.ensures.secret))
-
-pub slice_bounds-open-end-9 : goal.slice_bounds-open-end-9
-slice_bounds-open-end-9 c = filled-inside c.read_job-j.ensures.digests
-
-pub slice_bounds-open-end-10 : goal.slice_bounds-open-end-10
-slice_bounds-open-end-10 c = sym (length-take-le _ _ (filled-inside c.read_job-j.ensures.digests))
-
-pub returns : goal.returns
-returns c =
-    let a = c.args in
-    let b = c.requires.blank in
-    rw c.pending.ensures
-    (starts (take a.n a.file.now) c.read_job-j.result _ _ c.read_job-j.ensures _ b.op_stack b.origins b.destinations b.output b.addresses b.values refl refl
-    c.open-m.result _ c.open-m.ensures c.number_in-refused.result c.first.result c.number_in-refused.ensures c.first.ensures (omega arith) (zeros 4096 b.output))
+pub returns-in-Refused : goal.returns-in-Refused
+returns-in-Refused c =
+    let b = c.requires in
+    starts_refused _ _ _ _ c.in_ok-j.ensures.job _ b.op_stack b.origins b.destinations b.output b.addresses b.values refl refl c.open-m.result _ c.open-m.ensures c.in-Refused.error c.in-Refused.is

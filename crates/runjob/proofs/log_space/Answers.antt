@@ -1,6 +1,0 @@
-use Prim.Native.Nat.{ℕ}
-use lib.ListN.{length-replicate}
-use Rattle.runjob.proofs.log_space.Goals as goal
-
-pub returns : goal.returns
-returns c = length-replicate {A = ℕ} 524288 0
