@@ -13,14 +13,16 @@ ghost use Rattle.machine.specs.Lent.{code_in, memory_in, memory_out, opening_in,
 ghost use Rattle.std.specs.Prelude.{◌≡◌};
 
 use exports_calls::helper_variables::helper_call;
-use exports_calls::open::{open_call, open_with_fees_call};
+use exports_calls::open::open_call;
 use exports_calls::processor_row::row_call;
 use exports_calls::replay_call::replay_call;
-use exports_calls::rows::{rows_call, rows_with_fees_call};
-use exports_calls::run::{run_call, run_with_fees_call};
-use exports_calls::step::{step_call, step_with_fees_call};
-use exports_calls::thin::{Registers, step_reply};
-use exports_calls::trace::{trace_call, trace_with_fees_call};
+use exports_calls::rows::rows_call;
+use exports_calls::run::run_call;
+use exports_calls::step::step_call;
+use exports_calls::thin::{Registers, thin_call};
+use exports_calls::trace::trace_call;
+use machine::lent::{LentCode, LentMemory, OpeningMemory, SeenMemory};
+use machine_fees::fee_table::LentFees;
 
 // The number of this interface. It is raised where a call gets other parameters, or a word another meaning.
 #[unsafe(no_mangle)]
@@ -56,23 +58,30 @@ pub extern "C" fn triton_open(
         (code_in opcodes arguments public secret digests)
         (opening_in op_stack origins destinations addresses values output) }
 {
-    open_call(
-        registers,
-        answer,
-        revision,
-        digest,
-        cells,
+    let code = LentCode {
         opcodes,
         arguments,
         public,
         secret,
         digests,
+    };
+    let mut memory = OpeningMemory {
         op_stack,
         origins,
         destinations,
         addresses,
         values,
         output,
+    };
+    open_call(
+        registers,
+        answer,
+        None,
+        revision,
+        digest,
+        cells,
+        &code,
+        &mut memory,
     )
 }
 
@@ -100,22 +109,22 @@ pub extern "C" fn triton_step(
         (code_in opcodes arguments public secret digests)
         (memory_in op_stack origins destinations addresses values output) calls.old }
 {
-    step_call(
-        registers,
-        answer,
+    let code = LentCode {
         opcodes,
         arguments,
         public,
         secret,
         digests,
+    };
+    let mut memory = LentMemory {
         op_stack,
         origins,
         destinations,
         addresses,
         values,
         output,
-        calls,
-    )
+    };
+    step_call(registers, answer, None, &code, &mut memory, calls)
 }
 
 // As triton_step, but that the registers are a struct, so that all they can hold fits.
@@ -140,24 +149,22 @@ pub extern "C" fn triton_step_registers(
         ≡ thin_call registers.old answer.old (code_in opcodes arguments public secret digests)
         (memory_in op_stack origins destinations addresses values output) calls.old }
 {
-    let a = step_reply(
-        *registers,
-        answer,
+    let code = LentCode {
         opcodes,
         arguments,
         public,
         secret,
         digests,
+    };
+    let mut memory = LentMemory {
         op_stack,
         origins,
         destinations,
         addresses,
         values,
         output,
-        calls,
-    );
-    *registers = a.state;
-    a.number
+    };
+    thin_call(registers, answer, &code, &mut memory, calls)
 }
 
 // A refused run keeps the steps before the refused one.
@@ -184,22 +191,22 @@ pub extern "C" fn triton_run(
         (code_in opcodes arguments public secret digests)
         (memory_in op_stack origins destinations addresses values output) }
 {
-    run_call(
-        registers,
-        answer,
-        budget,
+    let code = LentCode {
         opcodes,
         arguments,
         public,
         secret,
         digests,
+    };
+    let mut memory = LentMemory {
         op_stack,
         origins,
         destinations,
         addresses,
         values,
         output,
-    )
+    };
+    run_call(registers, answer, None, budget, &code, &mut memory)
 }
 
 // The records of the steps are the first bytes of calls, each step's behind the last one's.
@@ -227,23 +234,22 @@ pub extern "C" fn triton_trace_execution(
         (code_in opcodes arguments public secret digests)
         (memory_in op_stack origins destinations addresses values output) calls.old }
 {
-    trace_call(
-        registers,
-        answer,
-        budget,
+    let code = LentCode {
         opcodes,
         arguments,
         public,
         secret,
         digests,
+    };
+    let mut memory = LentMemory {
         op_stack,
         origins,
         destinations,
         addresses,
         values,
         output,
-        calls,
-    )
+    };
+    trace_call(registers, answer, None, budget, &code, &mut memory, calls)
 }
 
 // The same, and the rows of the steps are the first words of rows.
@@ -272,21 +278,28 @@ pub extern "C" fn triton_trace_rows(
         (code_in opcodes arguments public secret digests)
         (memory_in op_stack origins destinations addresses values output) calls.old rows.old }
 {
-    rows_call(
-        registers,
-        answer,
-        budget,
+    let code = LentCode {
         opcodes,
         arguments,
         public,
         secret,
         digests,
+    };
+    let mut memory = LentMemory {
         op_stack,
         origins,
         destinations,
         addresses,
         values,
         output,
+    };
+    rows_call(
+        registers,
+        answer,
+        None,
+        budget,
+        &code,
+        &mut memory,
         calls,
         rows,
     )
@@ -313,21 +326,22 @@ pub extern "C" fn triton_helper_variables(
         (code_in opcodes arguments public secret digests)
         (shared_in op_stack origins destinations addresses values output) }
 {
-    helper_call(
-        registers,
-        helpers,
+    let code = LentCode {
         opcodes,
         arguments,
         public,
         secret,
         digests,
+    };
+    let memory = SeenMemory {
         op_stack,
         origins,
         destinations,
         addresses,
         values,
         output,
-    )
+    };
+    helper_call(registers, helpers, &code, &memory)
 }
 
 // Refused, the row is zeros.
@@ -351,21 +365,22 @@ pub extern "C" fn triton_processor_row(
         (code_in opcodes arguments public secret digests)
         (shared_in op_stack origins destinations addresses values output) }
 {
-    row_call(
-        registers,
-        row,
+    let code = LentCode {
         opcodes,
         arguments,
         public,
         secret,
         digests,
+    };
+    let memory = SeenMemory {
         op_stack,
         origins,
         destinations,
         addresses,
         values,
         output,
-    )
+    };
+    row_call(registers, row, &code, &memory)
 }
 
 // Refused, everything lent but the answer is as it was.
@@ -417,26 +432,35 @@ pub extern "C" fn triton_open_with_fees(
         (code_in opcodes arguments public secret digests)
         (opening_in op_stack origins destinations addresses values output) }
 {
-    open_with_fees_call(
-        registers,
-        answer,
-        revision,
-        digest,
-        cells,
+    let code = LentCode {
         opcodes,
         arguments,
         public,
         secret,
         digests,
+    };
+    let mut memory = OpeningMemory {
         op_stack,
         origins,
         destinations,
         addresses,
         values,
         output,
+    };
+    let fees = LentFees {
         lowest,
         highest,
         fees,
+    };
+    open_call(
+        registers,
+        answer,
+        Some(fees),
+        revision,
+        digest,
+        cells,
+        &code,
+        &mut memory,
     )
 }
 
@@ -467,25 +491,27 @@ pub extern "C" fn triton_step_with_fees(
         (code_in opcodes arguments public secret digests)
         (memory_in op_stack origins destinations addresses values output) calls.old }
 {
-    step_with_fees_call(
-        registers,
-        answer,
+    let code = LentCode {
         opcodes,
         arguments,
         public,
         secret,
         digests,
+    };
+    let mut memory = LentMemory {
         op_stack,
         origins,
         destinations,
         addresses,
         values,
         output,
-        calls,
+    };
+    let fees = LentFees {
         lowest,
         highest,
         fees,
-    )
+    };
+    step_call(registers, answer, Some(fees), &code, &mut memory, calls)
 }
 
 // With a fee table; the answer has eight words, the last what the steps cost.
@@ -515,25 +541,27 @@ pub extern "C" fn triton_run_with_fees(
         (code_in opcodes arguments public secret digests)
         (memory_in op_stack origins destinations addresses values output) }
 {
-    run_with_fees_call(
-        registers,
-        answer,
-        budget,
+    let code = LentCode {
         opcodes,
         arguments,
         public,
         secret,
         digests,
+    };
+    let mut memory = LentMemory {
         op_stack,
         origins,
         destinations,
         addresses,
         values,
         output,
+    };
+    let fees = LentFees {
         lowest,
         highest,
         fees,
-    )
+    };
+    run_call(registers, answer, Some(fees), budget, &code, &mut memory)
 }
 
 // The same with a fee table.
@@ -564,25 +592,34 @@ pub extern "C" fn triton_trace_execution_with_fees(
         (code_in opcodes arguments public secret digests)
         (memory_in op_stack origins destinations addresses values output) calls.old }
 {
-    trace_with_fees_call(
-        registers,
-        answer,
-        budget,
+    let code = LentCode {
         opcodes,
         arguments,
         public,
         secret,
         digests,
+    };
+    let mut memory = LentMemory {
         op_stack,
         origins,
         destinations,
         addresses,
         values,
         output,
-        calls,
+    };
+    let fees = LentFees {
         lowest,
         highest,
         fees,
+    };
+    trace_call(
+        registers,
+        answer,
+        Some(fees),
+        budget,
+        &code,
+        &mut memory,
+        calls,
     )
 }
 
@@ -615,25 +652,34 @@ pub extern "C" fn triton_trace_rows_with_fees(
         (code_in opcodes arguments public secret digests)
         (memory_in op_stack origins destinations addresses values output) calls.old rows.old }
 {
-    rows_with_fees_call(
-        registers,
-        answer,
-        budget,
+    let code = LentCode {
         opcodes,
         arguments,
         public,
         secret,
         digests,
+    };
+    let mut memory = LentMemory {
         op_stack,
         origins,
         destinations,
         addresses,
         values,
         output,
-        calls,
-        rows,
+    };
+    let fees = LentFees {
         lowest,
         highest,
         fees,
+    };
+    rows_call(
+        registers,
+        answer,
+        Some(fees),
+        budget,
+        &code,
+        &mut memory,
+        calls,
+        rows,
     )
 }

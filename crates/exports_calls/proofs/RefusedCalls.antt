@@ -37,7 +37,7 @@ use Rattle.exports_calls.specs.OpenCall.{open_fits_of, open_gives, open_call}
 use Rattle.exports_calls.specs.GivenCall.{zeroed, given_call}
 use Rattle.exports_calls.specs.ReplayCall.{replied, replay_call}
 use Rattle.exports_words.proofs.RegistersLaws.{registers_state}
-use Rattle.exports_words.proofs.CallsLaws.{fits-facts}
+use Rattle.exports_words.proofs.CallsLaws.{fits_facts}
 
 -- what a call gives that is refused before a step; its answer has k words
 abbrev pub refused_call : ℕ → List ℕ → Memory → Refusal → Called
@@ -78,7 +78,7 @@ module _ (f : Fees) (w a : List ℕ) (c : Code) (m : Memory) (h : fits_of w a (a
 
   -- the words of the registers are those of the state that was read from them
   pub same : (r : Refusal) → reported (answer_words f) (report 3 r 0 0 0) (state_of w) m ≡ refused_call (answer_words f) w m r
-  same r = ap (λ (x : List ℕ). called r.number x (answer_of (answer_words f) (report 3 r 0 0 0)) m) (registers_state w (fits-facts w a (answer_words f) refl h).registers)
+  same r = ap (λ (x : List ℕ). called r.number x (answer_of (answer_words f) (report 3 r 0 0 0)) m) (registers_state w (fits_facts w a (answer_words f) h).registers)
 
   -- at any place, but for skiz that has dropped its word
   pub step_kept : (b : List ℕ) (r : Refusal) → (step_of f (machine (state_of w) c m) b).outcome ≡ kept r → step_call f w a c m b ≡ recorded (refused_call (answer_words f) w m r) b

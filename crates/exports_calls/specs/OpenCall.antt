@@ -1,7 +1,8 @@
 -- open over numbers and slices: the machine's open_of, of a revision of the log, a program digest and so many RAM cells used, with a
 -- fee table or without, f.
-use Rattle.std.specs.Prelude.{Bool, false, List, ℕ, length, eqb}
+use Rattle.std.specs.Prelude.{Bool, false, List, ℕ, length, eqb, Result, Ok, Err}
 use Rattle.machine.specs.declared.state.VMState.{VMState}
+use Rattle.machine.specs.declared.refusal.InstructionError.{InstructionError}
 use Rattle.choices.specs.Choice.{cond}
 use Rattle.machine.specs.Refusal.{Refusal}
 use Rattle.machine.specs.Machine.{Code, Memory}
@@ -30,6 +31,7 @@ open_gives w m (lost r x) = unopened w m r
 unfoldable pub open_call : Fees → List ℕ → List ℕ → ℕ → List ℕ → ℕ → Code → Memory → Called
 open_call f w a v digest n c m = cond (open_fits_of w a digest) (open_gives w m (open_of f v digest c m n)) (misfitted 7 w a m)
 
--- the registers where open gives this number and this state
-unfoldable pub opened_registers : ℕ → VMState → List ℕ → List ℕ
-opened_registers n s w = cond (eqb n 0) (registers_of s) w
+-- the registers behind an opening
+abbrev pub registers_behind : Result VMState InstructionError → List ℕ → List ℕ
+registers_behind (Ok s) w = registers_of s
+registers_behind (Err e) w = w

@@ -1,127 +1,43 @@
 // trace_rows over numbers and slices.
 ghost use Rattle.std.specs.Prelude.{◌≡◌};
-ghost use Rattle.machine.specs.FeeTable.{fee_table, unpriced, priced};
-ghost use Rattle.machine.specs.Lent.{code_in, memory_in, memory_out};
+ghost use Rattle.machine.specs.Lent.{code_of, memory_of, Keeps};
+ghost use Rattle.machine_fees.specs.FeeView.{fees_of};
 ghost use Rattle.exports_words.specs.Calls.{called, recorded, tabled};
 ghost use Rattle.exports_calls.specs.RunCall.{rows_call};
 
 use exports_words::fits::fits;
-use exports_words::registers::{read_registers, write_registers};
-use exports_words::report::{run_report, turn_down, write_answer};
-use machine_vm::rows::{trace_rows, trace_rows_with_fees};
+use exports_words::registers::write_registers;
+use exports_words::report::{answer_words, run_report, turn_down, write_answer};
+use machine::lent::{LentCode, LentMemory};
+use machine_fees::fee_table::LentFees;
+use machine_vm::rows::trace_rows;
 
-// The records of the steps are the first bytes of calls, and their rows the first words of rows, each step's behind the last one's.
+// The records of the steps are the first bytes of calls, and their rows the first words of table, each step's behind the last one's.
 pub fn rows_call(
     registers: &mut [u64],
     answer: &mut [u64],
+    fees: Option<LentFees<'_>>,
     budget: u64,
-    opcodes: &[u64],
-    arguments: &[u64],
-    public: &[u64],
-    secret: &[u64],
-    digests: &[u64],
-    op_stack: &mut [u64],
-    origins: &mut [u64],
-    destinations: &mut [u64],
-    addresses: &mut [u64],
-    values: &mut [u64],
-    output: &mut [u64],
+    code: &LentCode<'_>,
+    memory: &mut LentMemory<'_>,
     calls: &mut [u8],
-    rows: &mut [u64],
+    table: &mut [u64],
 ) -> u64
-    ensures { tabled (recorded (called result registers.new answer.new
-        (memory_out op_stack origins destinations addresses values output)) calls.new) rows.new
-        ≡ rows_call unpriced budget registers.old answer.old
-        (code_in opcodes arguments public secret digests)
-        (memory_in op_stack origins destinations addresses values output) calls.old rows.old }
+    ensures gives { tabled (recorded (called result registers.new answer.new (memory_of memory.new)) calls.new) table.new
+        ≡ rows_call (fees_of fees.entry) budget registers.old answer.old (code_of code.now) (memory_of memory.old) calls.old table.old }
+    ensures lent { Keeps memory.old memory.new }
 {
-    if fits(registers, answer, 7) {
-        let state = read_registers(registers);
-        let r = trace_rows(
-            budget,
-            state,
-            opcodes,
-            arguments,
-            public,
-            secret,
-            digests,
-            op_stack,
-            origins,
-            destinations,
-            addresses,
-            values,
-            output,
-            calls,
-            rows,
-        );
-        let ending = r.ending;
-        let report = run_report(ending, r.count, r.bytes, r.fee);
-        write_registers(registers, r.state);
-        write_answer(answer, report);
-        report.number
-    } else {
-        turn_down(answer, 7);
-        1
-    }
-}
-
-// With a fee table.
-pub fn rows_with_fees_call(
-    registers: &mut [u64],
-    answer: &mut [u64],
-    budget: u64,
-    opcodes: &[u64],
-    arguments: &[u64],
-    public: &[u64],
-    secret: &[u64],
-    digests: &[u64],
-    op_stack: &mut [u64],
-    origins: &mut [u64],
-    destinations: &mut [u64],
-    addresses: &mut [u64],
-    values: &mut [u64],
-    output: &mut [u64],
-    calls: &mut [u8],
-    rows: &mut [u64],
-    lowest: &[u64],
-    highest: &[u64],
-    fees: &[u64],
-) -> u64
-    ensures { tabled (recorded (called result registers.new answer.new
-        (memory_out op_stack origins destinations addresses values output)) calls.new) rows.new
-        ≡ rows_call (priced (fee_table lowest.now highest.now fees.now)) budget registers.old answer.old
-        (code_in opcodes arguments public secret digests)
-        (memory_in op_stack origins destinations addresses values output) calls.old rows.old }
-{
-    if fits(registers, answer, 8) {
-        let state = read_registers(registers);
-        let r = trace_rows_with_fees(
-            budget,
-            state,
-            opcodes,
-            arguments,
-            public,
-            secret,
-            digests,
-            op_stack,
-            origins,
-            destinations,
-            addresses,
-            values,
-            output,
-            calls,
-            rows,
-            lowest,
-            highest,
-            fees,
-        );
-        let ending = r.ending;
-        let report = run_report(ending, r.count, r.bytes, r.fee);
-        write_registers(registers, r.state);
-        write_answer(answer, report);
-        report.number
-    } else {
-        turn_down(answer, 8);
-        1
-    }
+    let n = answer_words(&fees);
+    let state = match fits(registers, answer, n) {
+        Some(state) => state,
+        None => {
+            turn_down(answer, n);
+            return 1;
+        }
+    };
+    let r = trace_rows(fees, budget, state, code, memory, calls, table);
+    let report = run_report(r.ending, r.count, r.bytes, r.fee);
+    write_registers(registers, r.state);
+    write_answer(answer, report);
+    report.number
 }

@@ -1,119 +1,41 @@
 // run over numbers and slices.
 ghost use Rattle.std.specs.Prelude.{◌≡◌};
-ghost use Rattle.machine.specs.FeeTable.{fee_table, unpriced, priced};
-ghost use Rattle.machine.specs.Lent.{code_in, memory_in, memory_out};
+ghost use Rattle.machine.specs.Lent.{code_of, memory_of, Keeps};
+ghost use Rattle.machine_fees.specs.FeeView.{fees_of};
 ghost use Rattle.exports_words.specs.Calls.{called};
 ghost use Rattle.exports_calls.specs.RunCall.{run_call};
 
 use exports_words::fits::fits;
-use exports_words::registers::{read_registers, write_registers};
-use exports_words::report::{run_report, turn_down, write_answer};
-use machine_vm::run::{run, run_with_fees};
+use exports_words::registers::write_registers;
+use exports_words::report::{answer_words, run_report, turn_down, write_answer};
+use machine::lent::{LentCode, LentMemory};
+use machine_fees::fee_table::LentFees;
+use machine_vm::run::run;
 
 // A refused run keeps the steps before the refused one.
 pub fn run_call(
     registers: &mut [u64],
     answer: &mut [u64],
+    fees: Option<LentFees<'_>>,
     budget: u64,
-    opcodes: &[u64],
-    arguments: &[u64],
-    public: &[u64],
-    secret: &[u64],
-    digests: &[u64],
-    op_stack: &mut [u64],
-    origins: &mut [u64],
-    destinations: &mut [u64],
-    addresses: &mut [u64],
-    values: &mut [u64],
-    output: &mut [u64],
+    code: &LentCode<'_>,
+    memory: &mut LentMemory<'_>,
 ) -> u64
-    ensures { called result registers.new answer.new
-        (memory_out op_stack origins destinations addresses values output)
-        ≡ run_call unpriced budget registers.old answer.old
-        (code_in opcodes arguments public secret digests)
-        (memory_in op_stack origins destinations addresses values output) }
+    ensures gives { called result registers.new answer.new (memory_of memory.new)
+        ≡ run_call (fees_of fees.entry) budget registers.old answer.old (code_of code.now) (memory_of memory.old) }
+    ensures lent { Keeps memory.old memory.new }
 {
-    if fits(registers, answer, 7) {
-        let state = read_registers(registers);
-        let r = run(
-            budget,
-            state,
-            opcodes,
-            arguments,
-            public,
-            secret,
-            digests,
-            op_stack,
-            origins,
-            destinations,
-            addresses,
-            values,
-            output,
-        );
-        let ending = r.ending;
-        let report = run_report(ending, r.count, r.bytes, r.fee);
-        write_registers(registers, r.state);
-        write_answer(answer, report);
-        report.number
-    } else {
-        turn_down(answer, 7);
-        1
-    }
-}
-
-// With a fee table.
-pub fn run_with_fees_call(
-    registers: &mut [u64],
-    answer: &mut [u64],
-    budget: u64,
-    opcodes: &[u64],
-    arguments: &[u64],
-    public: &[u64],
-    secret: &[u64],
-    digests: &[u64],
-    op_stack: &mut [u64],
-    origins: &mut [u64],
-    destinations: &mut [u64],
-    addresses: &mut [u64],
-    values: &mut [u64],
-    output: &mut [u64],
-    lowest: &[u64],
-    highest: &[u64],
-    fees: &[u64],
-) -> u64
-    ensures { called result registers.new answer.new
-        (memory_out op_stack origins destinations addresses values output)
-        ≡ run_call (priced (fee_table lowest.now highest.now fees.now)) budget registers.old answer.old
-        (code_in opcodes arguments public secret digests)
-        (memory_in op_stack origins destinations addresses values output) }
-{
-    if fits(registers, answer, 8) {
-        let state = read_registers(registers);
-        let r = run_with_fees(
-            budget,
-            state,
-            opcodes,
-            arguments,
-            public,
-            secret,
-            digests,
-            op_stack,
-            origins,
-            destinations,
-            addresses,
-            values,
-            output,
-            lowest,
-            highest,
-            fees,
-        );
-        let ending = r.ending;
-        let report = run_report(ending, r.count, r.bytes, r.fee);
-        write_registers(registers, r.state);
-        write_answer(answer, report);
-        report.number
-    } else {
-        turn_down(answer, 8);
-        1
-    }
+    let n = answer_words(&fees);
+    let state = match fits(registers, answer, n) {
+        Some(state) => state,
+        None => {
+            turn_down(answer, n);
+            return 1;
+        }
+    };
+    let r = run(fees, budget, state, code, memory);
+    let report = run_report(r.ending, r.count, r.bytes, r.fee);
+    write_registers(registers, r.state);
+    write_answer(answer, report);
+    report.number
 }

@@ -1,9 +1,10 @@
 // step over the register record that the host lends.
 ghost use Rattle.std.specs.Prelude.{◌≡◌};
-ghost use Rattle.machine.specs.Lent.{code_in, memory_in, memory_out};
+ghost use Rattle.machine.specs.Lent.{code_of, memory_of, Keeps};
 ghost use Rattle.exports_calls.specs.ThinCall.{state_in, registers_in, thinly, thin_call};
 
 use exports_words::report::{step_report, write_answer};
+use machine::lent::{LentCode, LentMemory};
 use machine::state::VMState;
 use machine_vm::step::step;
 use tip5::sponge::Sponge;
@@ -32,34 +33,25 @@ pub struct Registers {
     pub revision: u64,
 }
 
-// The number that the call gives, and the registers behind it.
-#[derive(Clone, Copy)]
-pub struct Reply {
-    pub number: u64,
-    pub state: Registers,
-}
+impl From<Registers> for VMState {
+    ghost from_gives = { λ r s. s ≡ state_in r };
 
-fn state_in(r: Registers) -> VMState
-    ensures { result ≡ state_in r }
-{
-    let words = r.words;
-    let sponge = Sponge {
-        words: words,
-        set: r.set,
-    };
-    VMState {
-        clock: r.clock,
-        pointer: r.pointer,
-        depth: r.depth,
-        jumps: r.jumps,
-        cells: r.cells,
-        outputs: r.outputs,
-        publics: r.publics,
-        secrets: r.secrets,
-        digests: r.digests,
-        sponge: sponge,
-        halted: r.halted,
-        revision: r.revision,
+    fn from(r: Registers) -> VMState {
+        let words = r.words;
+        VMState {
+            clock: r.clock,
+            pointer: r.pointer,
+            depth: r.depth,
+            jumps: r.jumps,
+            cells: r.cells,
+            outputs: r.outputs,
+            publics: r.publics,
+            secrets: r.secrets,
+            digests: r.digests,
+            sponge: Sponge { words, set: r.set },
+            halted: r.halted,
+            revision: r.revision,
+        }
     }
 }
 
@@ -84,61 +76,30 @@ fn registers_in(r: Registers, s: VMState) -> Registers
         set: sponge.set,
         reserved2: r.reserved2,
         reserved4: r.reserved4,
-        words: words,
+        words,
         revision: s.revision,
     }
 }
 
-// The call with the registers by value.
-pub fn step_reply(
-    registers: Registers,
+// A step over the record that is lent.
+pub fn thin_call(
+    registers: &mut Registers,
     answer: &mut [u64],
-    opcodes: &[u64],
-    arguments: &[u64],
-    public: &[u64],
-    secret: &[u64],
-    digests: &[u64],
-    op_stack: &mut [u64],
-    origins: &mut [u64],
-    destinations: &mut [u64],
-    addresses: &mut [u64],
-    values: &mut [u64],
-    output: &mut [u64],
+    code: &LentCode<'_>,
+    memory: &mut LentMemory<'_>,
     calls: &mut [u8],
-) -> Reply
-    ensures { thinly result.number result.state answer.new (memory_out op_stack origins destinations addresses values output) calls.new
-        ≡ thin_call registers answer.old (code_in opcodes arguments public secret digests)
-        (memory_in op_stack origins destinations addresses values output) calls.old }
+) -> u64
+    ensures gives { thinly result registers.new answer.new (memory_of memory.new) calls.new
+        ≡ thin_call registers.old answer.old (code_of code.now) (memory_of memory.old) calls.old }
+    ensures lent { Keeps memory.old memory.new }
 {
-    if answer.len() == 7 {
-        let state = state_in(registers);
-        let r = step(
-            state,
-            opcodes,
-            arguments,
-            public,
-            secret,
-            digests,
-            op_stack,
-            origins,
-            destinations,
-            addresses,
-            values,
-            output,
-            calls,
-        );
-        let answered = r.answer;
-        let report = step_report(answered, r.bytes, 0);
-        write_answer(answer, report);
-        let left = registers_in(registers, r.state);
-        Reply {
-            number: report.number,
-            state: left,
-        }
-    } else {
-        Reply {
-            number: 1,
-            state: registers,
-        }
+    if answer.len() != 7 {
+        return 1;
     }
+    let priced = step(None, VMState::from(*registers), code, memory, calls);
+    let r = priced.stepped;
+    let report = step_report(r.answer, r.bytes, 0);
+    write_answer(answer, report);
+    *registers = registers_in(*registers, r.state);
+    report.number
 }

@@ -1,4 +1,5 @@
 -- The registers and the state are two writings of one thing; what the code of both makes. Assumes nothing.
+use mir.Val.{bool_byte}
 use mathlib.Core.Path.{◌≡◌, refl, sym, ap, ◌∙◌}
 use mathlib.Core.Bool.{Bool, true, false, true≢false}
 use mathlib.Core.List.{List, [], ◌∷◌, ◌++◌, append-nil}
@@ -109,3 +110,8 @@ unfolding registers_of
 write_state s r t u q {h} {k} l n a b e f g =
     write-words r t u q (s.clock ∷ s.pointer ∷ s.depth ∷ s.jumps ∷ s.cells ∷ s.outputs ∷ s.publics ∷ s.secrets ∷ s.digests ∷ h ∷ k ∷ []) s.sponge.words s.revision l refl n e f g
     ∙ rw (a, b)
+
+-- a mark as std makes a number of it
+pub byte_mark : (t : Bool) → bool_byte t ≡ mark t
+byte_mark true = refl
+byte_mark false = refl

@@ -1,10 +1,10 @@
 -- What the calls over numbers and slices give, and which slices fit. w are the registers, a is the answer.
-use Rattle.std.specs.Prelude.{ℕ, Bool, false, List, length, eqb}
+use Rattle.std.specs.Prelude.{ℕ, Bool, false, List, length, eqb, Option, Some, None}
 use Rattle.machine.specs.declared.state.VMState.{VMState}
 use Rattle.choices.specs.Choice.{cond}
 use Rattle.machine.specs.Machine.{Memory}
 use Rattle.exports_words.specs.declared.report.Report.{Report}
-use Rattle.exports_words.specs.Registers.{registers_of, readable_of}
+use Rattle.exports_words.specs.Registers.{registers_of, state_of, readable_of}
 use Rattle.exports_words.specs.Report.{misfit, answer_of, said_of}
 
 -- the number of the interface: it is raised where a call gets other parameters, or a word another meaning
@@ -40,6 +40,10 @@ tabled c t = record { call = c; table = t }
 -- registers that can be read, and an answer, or a slice for words of the machine, of n words
 unfoldable pub fits_of : List ℕ → List ℕ → ℕ → Bool
 fits_of w a n = cond (readable_of w) (eqb (length a) n) false
+
+-- the state that they stand for
+abbrev pub fitting_of : List ℕ → List ℕ → ℕ → Option VMState
+fitting_of w a n = cond (fits_of w a n) (Some (state_of w)) None
 
 -- they do not fit: number 1, and nothing lent is changed; k is how many words the answer is to have
 abbrev pub misfitted : ℕ → List ℕ → List ℕ → Memory → Called

@@ -1,7 +1,8 @@
 -- What a call answers, as a slice of seven words, and with a fee table of eight: src/lib.rt of exports names them.
-use Rattle.std.specs.Prelude.{ℕ, List, [], ◌∷◌, length, take, eqb}
+use Rattle.std.specs.Prelude.{ℕ, List, [], ◌∷◌, length, take, eqb, Result, Ok, Err}
 use Rattle.choices.specs.Choice.{cond}
-use Rattle.machine.specs.Refusal.{Refusal, plainly}
+use Rattle.machine.specs.Refusal.{Refusal, plainly, refusal_of}
+use Rattle.machine.specs.declared.refusal.InstructionError.{InstructionError}
 use Rattle.machine.specs.FeeTable.{Fees, unpriced, priced}
 use Rattle.machine.specs.Path.{the_log, the_table, Ending, halted, spent, full, refused}
 use Rattle.machine_perform.specs.AnswerView.{Answered, did, turned}
@@ -24,6 +25,11 @@ misfit = report 3 (plainly 1) 0 0 0
 abbrev pub step_report : Answered → ℕ → ℕ → Report
 step_report did n row = report 0 unrefused 1 n row
 step_report (turned r) n row = report 3 r 0 n row
+
+-- what an opening answers
+abbrev pub answered_in : {A : Type 0} → Result A InstructionError → Answered
+answered_in (Ok _) = did
+answered_in (Err e) = turned (refusal_of e)
 
 abbrev pub open_report : Answered → Report
 open_report did = report 0 unrefused 0 0 0

@@ -1,28 +1,17 @@
 // The registers as a slice of 28 words.
 ghost use Rattle.std.specs.Prelude.{◌≡◌, length};
-ghost use Rattle.exports_words.specs.Registers.{mark, registers_of, state_of, Readable, readable_of};
+ghost use Rattle.exports_words.specs.Registers.{registers_of, state_of, Readable, readable_of};
 
 use machine::state::VMState;
 use tip5::sponge::Sponge;
 use tip5::words::copy;
 
 // 28 words, a clock of 32 bits, and marks that are 0 or 1. The revision may be any word: place A tries it.
+#[tactic(auto, unfolding(crate::specs::Registers::readable_of))]
 pub fn readable(registers: &[u64]) -> bool
     ensures { result ≡ readable_of registers.now }
 {
-    if registers.len() == 28 {
-        if registers[0] < 4294967296 {
-            if registers[9] < 2 {
-                registers[10] < 2
-            } else {
-                false
-            }
-        } else {
-            false
-        }
-    } else {
-        false
-    }
+    registers.len() == 28 && registers[0] < 4294967296 && registers[9] < 2 && registers[10] < 2
 }
 
 pub fn read_registers(registers: &[u64]) -> VMState
@@ -51,13 +40,6 @@ pub fn read_registers(registers: &[u64]) -> VMState
     }
 }
 
-// 1 where it is set.
-fn marked(t: bool) -> u64
-    ensures { result ≡ mark t }
-{
-    if t { 1 } else { 0 }
-}
-
 pub fn write_registers(registers: &mut [u64], state: VMState)
     requires { length registers.old ≡ 28 }
     ensures { registers.new ≡ registers_of state }
@@ -74,8 +56,8 @@ pub fn write_registers(registers: &mut [u64], state: VMState)
         state.publics as u64,
         state.secrets as u64,
         state.digests as u64,
-        marked(state.halted),
-        marked(sponge.set),
+        u64::from(state.halted),
+        u64::from(sponge.set),
     ];
     let last = [state.revision];
     copy(&mut registers[..], 0, &head, 11);

@@ -1,18 +1,21 @@
 // What a call answers, as a slice of seven words; with a fee table, of eight.
 ghost use Rattle.std.specs.Prelude.{◌≡◌, ◌≤◌, length};
 ghost use Rattle.machine.specs.Refusal.{refusal_of};
+ghost use Rattle.machine_fees.specs.FeeView.{fees_of};
 ghost use Rattle.machine_perform.specs.AnswerView.{answer_in};
 ghost use Rattle.machine_steps.specs.RanView.{ending_in};
-ghost use Rattle.exports_words.specs.Report.{unrefused, report, misfit, answer_of, said_of, step_report, open_report, run_report};
+ghost use Rattle.exports_words.specs.Report.{unrefused, report, misfit, answer_of, said_of, step_report, open_report, run_report, answered_in, answer_words};
 
 use machine::refusal::InstructionError;
+use machine::state::VMState;
+use machine_fees::fee_table::LentFees;
 use machine_perform::answer::Answer;
-use machine_refusals::refusals::numbered;
+use machine_refusals::refusals::Refusal;
 use machine_steps::answer::Ending;
 use tip5::words::copy;
 
 // The words of an answer. The last, by a fee table: what the steps cost, or the row that priced a step.
-#[derive(Clone, Copy)]
+#[derive(Clone, Copy, PartialEq, Eq, Debug)]
 pub struct Report {
     pub ending: u64,
     pub number: u64,
@@ -43,7 +46,7 @@ fn unrefused(ending: u64, steps: u64, bytes: u64, price: u64) -> Report
 fn refused(error: InstructionError, steps: u64, bytes: u64, price: u64) -> Report
     ensures { result ≡ report 3 (refusal_of error) steps bytes price }
 {
-    let refusal = numbered(error);
+    let refusal = Refusal::from(error);
     Report {
         ending: 3,
         number: refusal.number,
@@ -65,13 +68,20 @@ pub fn step_report(answer: Answer, bytes: usize, row: usize) -> Report
     }
 }
 
-pub fn open_report(answer: Answer) -> Report
-    ensures { result ≡ open_report (answer_in answer) }
+pub fn open_report(opened: Result<VMState, InstructionError>) -> Report
+    ensures { result ≡ open_report (answered_in opened) }
 {
-    match answer {
-        Answer::Took => unrefused(0, 0, 0, 0),
-        Answer::Refused(error) => refused(error, 0, 0, 0),
+    match opened {
+        Ok(_) => unrefused(0, 0, 0, 0),
+        Err(error) => refused(error, 0, 0, 0),
     }
+}
+
+// How many words an answer has: with a fee table one more.
+pub fn answer_words(fees: &Option<LentFees<'_>>) -> usize
+    ensures { result ≡ answer_words (fees_of fees.now) }
+{
+    if fees.is_some() { 8 } else { 7 }
 }
 
 pub fn run_report(ending: Ending, count: u64, bytes: usize, fee: u64) -> Report

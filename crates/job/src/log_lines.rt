@@ -20,7 +20,7 @@ pub fn record_in(log: &[u8]) -> Option<&[u8]>
     if log.len() < 4 {
         return None;
     }
-    whole_in(log, length_of(1, kind_in(log)))
+    whole_in(log, length_of(1, kind_in(log))?)
 }
 
 // Any byte but 0 is a write.

@@ -1,5 +1,13 @@
 -- Refusals: document 01's number and the three words that a refusal carries.
-use Rattle.std.specs.Prelude.{ℕ}
+use Rattle.std.specs.Prelude.{ℕ, Result, Ok, Err}
+use Rattle.machine.specs.declared.refusal.PlaceA.{PlaceA}
+use Rattle.machine.specs.declared.refusal.PlaceA.TheVariants as A
+use Rattle.machine.specs.declared.refusal.PlaceB.{PlaceB}
+use Rattle.machine.specs.declared.refusal.PlaceB.TheVariants as B
+use Rattle.machine.specs.declared.refusal.PlaceD.{PlaceD}
+use Rattle.machine.specs.declared.refusal.PlaceD.TheVariants as D
+use Rattle.machine.specs.declared.refusal.FeeError.{FeeError}
+use Rattle.machine.specs.declared.refusal.FeeError.TheVariants as F
 use Rattle.machine.specs.declared.refusal.InstructionError.{InstructionError}
 use Rattle.machine.specs.declared.refusal.InstructionError.TheVariants as E
 
@@ -69,9 +77,35 @@ sponge_not_initialized = plainly 23
 
 -- ---- the code's names
 
+abbrev pub number_a : PlaceA → ℕ
+number_a A.BadShape = 1
+number_a A.NotAWord = 2
+number_a A.InvalidOpcode = 3
+number_a A.IllegalArgument = 4
+number_a A.BadState = 5
+
+abbrev pub number_b : PlaceB → ℕ
+number_b B.MachineHalted = 10
+number_b B.InstructionPointerOverflow = 11
+number_b B.OpStackTooShallow = 12
+
+abbrev pub number_d : PlaceD → ℕ
+number_d D.OpStackFull = 30
+number_d D.JumpStackFull = 31
+number_d D.RamFull = 32
+number_d D.OutputFull = 33
+number_d D.ClockAtEnd = 34
+
+-- the opcode, for which a fee is missing or stands twice
+abbrev pub fee_refusal : FeeError → Refusal
+fee_refusal F.BadFeeTable = plainly 64
+fee_refusal (F.OpcodeWithoutFee op) = refusal 65 op 0 0
+fee_refusal (F.OpcodeWithTwoFees op) = refusal 66 op 0 0
+
 unfoldable pub refusal_of : InstructionError → Refusal
-refusal_of (E.Checked n w) = refusal n w 0 0
-refusal_of (E.Numbered n) = plainly n
+refusal_of (E.Handed e) = plainly (number_a e)
+refusal_of (E.Fees e) = fee_refusal e
+refusal_of (E.Before e) = plainly (number_b e)
 refusal_of E.InstructionPointerOverflow = instruction_pointer_overflow
 refusal_of (E.FailedU32Conversion w) = failed_u32_conversion w
 refusal_of (E.EmptyPublicInput n) = empty_public_input n
@@ -84,3 +118,23 @@ refusal_of E.InverseOfZero = inverse_of_zero
 refusal_of E.DivisionByZero = division_by_zero
 refusal_of E.LogarithmOfZero = logarithm_of_zero
 refusal_of E.SpongeNotInitialized = sponge_not_initialized
+refusal_of (E.NoRoom e) = plainly (number_d e)
+
+-- ---- what a check found, as a number, 0 where it found nothing
+
+abbrev pub found_a : {A : Type 0} → Result A PlaceA → ℕ
+found_a (Ok _) = 0
+found_a (Err e) = number_a e
+
+abbrev pub found_b : {A : Type 0} → Result A PlaceB → ℕ
+found_b (Ok _) = 0
+found_b (Err e) = number_b e
+
+abbrev pub found_d : {A : Type 0} → Result A PlaceD → ℕ
+found_d (Ok _) = 0
+found_d (Err e) = number_d e
+
+-- the same with the words that it carries
+abbrev pub found : {A : Type 0} → Result A InstructionError → Refusal
+found (Ok _) = plainly 0
+found (Err e) = refusal_of e

@@ -4,7 +4,7 @@ ghost use Rattle.machine.specs.Ram.{cells};
 ghost use Rattle.machine_effects.specs.EffectView.{jump_top_of};
 ghost use Rattle.machine_decide.specs.DecideView.{handed, handed_hash, hashes as hashes_of, Reliable, ReliableHash, Acted, ActedHash, last_of, StandingPlain, DecidedPlain, StandingHash, DecidedHash};
 
-use machine::refusal::InstructionError;
+use machine::refusal::{InstructionError, PlaceA};
 use machine::state::VMState;
 use machine_arithmetic::{arithmetic, bitwise};
 use machine_effects::effect::Decided;
@@ -86,7 +86,7 @@ pub fn act(
         19 => input_output::write_io(w, n),
         80 => many_in_one::xx_dot_step(addresses, values, count, w),
         88 => many_in_one::xb_dot_step(addresses, values, count, w),
-        _ => effect::refuse(InstructionError::Numbered(3)),
+        _ => effect::refuse(InstructionError::Handed(PlaceA::InvalidOpcode)),
     }
 }
 
@@ -112,7 +112,7 @@ pub fn act_hashing(
         56 => hashing::sponge_squeeze(sponge),
         36 => many_in_one::merkle_step(digests, taken, w),
         44 => many_in_one::merkle_step_mem(addresses, values, count, w),
-        _ => hashing::refused(InstructionError::Numbered(3)),
+        _ => hashing::refused(InstructionError::Handed(PlaceA::InvalidOpcode)),
     }
 }
 

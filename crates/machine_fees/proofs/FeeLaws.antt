@@ -10,49 +10,49 @@ use lib.ListN.{length, get_or, set, replicate, length-set, length-replicate}
 use lib.Seq.{get_or-set_same, get_or-set_other}
 use lib.Dec.{eqb, ltb}
 use Rattle.choices.specs.Choice.{cond, first_of, above_of}
-use Rattle.machine.specs.Refusal.{refusal, plainly}
+use Rattle.machine.specs.Refusal.{Refusal, refusal, plainly}
 use Rattle.machine.specs.Instruction.{decode, known_in}
-use Rattle.machine.specs.FeeTable.{FeeTable, fee_table, in_row, times_in, last_in, times, row_for, price_of, wide1, table1, turned64, rows64, earlier, lowest_opcode, opcodes, unpriced65, priced_twice66, table_fault, checked}
-use Rattle.machine_fees.specs.FeeView.{refusal_in, carrying, FoundIn, Shaped, Priceable, OpcodesChecked, TableChecked, fees_in, FeesChecked}
+use Rattle.machine.specs.FeeTable.{FeeTable, fee_table, in_row, times_in, last_in, times, row_for, price_of, wide1, table1, turned64, rows64, earlier, lowest_opcode, opcodes, unpriced65, priced_twice66, table_fault, Fees, unpriced, priced, checked}
+use Rattle.std.specs.Prelude.{Option, Some, None, Result, Ok, Err, IsOk, IsErrAnd}
+use Rattle.std.specs.Option.{option_or}
+use Rattle.std.specs.Bool.{then_some}
+use Rattle.machine.specs.declared.refusal.PlaceA.{PlaceA}
+use Rattle.machine.specs.declared.refusal.FeeError.{FeeError}
+use Rattle.machine.specs.declared.refusal.FeeError.TheVariants as F
+use Rattle.machine.specs.declared.refusal.InstructionError.{InstructionError}
+use Rattle.machine.specs.declared.refusal.InstructionError.TheVariants as E
+use Rattle.machine.specs.Refusal.{number_a, found_a, fee_refusal, refusal_of, found}
+use Rattle.machine_fees.specs.FeeView.{found_fee, carrying, FoundIn, Shaped, Priceable, PricesOf, OpcodesChecked, TableChecked, FeesChecked}
 use Rattle.machine_fees.specs.declared.fee_table.Found.{Found}
-use Rattle.machine_fees.specs.declared.fee_table.Fault.{Fault}
 use Rattle.choices.proofs.Choice.{first-nil, above-not, above-is}
 use Rattle.machine.proofs.Words.{zeros_get_d}
 use Rattle.machine.proofs.FeeTable.{known_low, table_lowest, table-highest, table_narrow}
+use Rattle.machine.proofs.Refused.{number_a_some, fee_some}
 use Rattle.machine_place_a.proofs.ChecksLaws.{scan_more, scan_stop}
 
 -- ---- 1 and 64
-
--- at the end nothing was found
-pub scan_end : (f : ℕ → ℕ) (i n : ℕ) → i ≤ n → n ≤ i → f i ≡ 0 → 0 ≡ f n
-scan_end f i n l m h = let e : n ≡ i = omega arith in rw e (sym h)
 
 wide_turn : (s : List ℕ) (n : ℕ) → wide1 s (suc n) ≡ first_of (wide1 s n) (above_of (get_or s n 0) 4294967295 1)
 unfolding wide1
 wide_turn s n = refl
 
-pub wide_more : (s : List ℕ) (i : ℕ) → wide1 s i ≡ 0 → get_or s i 0 ≤ 4294967295 → wide1 s (i + 1) ≡ 0
-wide_more s i h l = scan_more (wide1 s) _ (wide_turn s) i h (above-not (get_or s i 0) 4294967295 1 l)
+pub wide_more : (s : List ℕ) (i : ℕ) → wide1 s i ≡ 0 → 0 ≡ above_of (get_or s i 0) 4294967295 1 → wide1 s (i + 1) ≡ 0
+wide_more s i h l = scan_more (wide1 s) _ (wide_turn s) i h (sym l)
 
-pub wide_stop : (s : List ℕ) (i n : ℕ) → i < n → wide1 s i ≡ 0 → 4294967295 < get_or s i 0 → 1 ≡ wide1 s n
-wide_stop s i n m h l = sym (scan_stop (wide1 s) _ (wide_turn s) i n 1 m (omega arith) h (above-is (get_or s i 0) 4294967295 1 l))
+pub wide_found : (s : List ℕ) (i n k : ℕ) → i < n → wide1 s i ≡ 0 → k ≡ above_of (get_or s i 0) 4294967295 1 → 0 < k → k ≡ wide1 s n
+wide_found s i n k m h e l = sym (scan_stop (wide1 s) _ (wide_turn s) i n k m l h (sym e))
 
 turned_turn : (t : FeeTable) (n : ℕ) → turned64 t (suc n) ≡ first_of (turned64 t n) (above_of (get_or t.lowest n 0) (get_or t.highest n 0) 64)
 unfolding turned64
 turned_turn t n = refl
 
-pub turned_more : (t : FeeTable) (i : ℕ) → turned64 t i ≡ 0 → get_or t.lowest i 0 ≤ get_or t.highest i 0 → turned64 t (i + 1) ≡ 0
-turned_more t i h l = scan_more (turned64 t) _ (turned_turn t) i h (above-not (get_or t.lowest i 0) (get_or t.highest i 0) 64 l)
+pub turned_more : (t : FeeTable) (i : ℕ) → turned64 t i ≡ 0 → 0 ≡ above_of (get_or t.lowest i 0) (get_or t.highest i 0) 64 → turned64 t (i + 1) ≡ 0
+turned_more t i h l = scan_more (turned64 t) _ (turned_turn t) i h (sym l)
 
-pub turned-stop : (t : FeeTable) (i n : ℕ) → i < n → turned64 t i ≡ 0 → get_or t.highest i 0 < get_or t.lowest i 0 → 64 ≡ turned64 t n
-turned-stop t i n m h l = sym (scan_stop (turned64 t) _ (turned_turn t) i n 64 m (omega arith) h (above-is (get_or t.lowest i 0) (get_or t.highest i 0) 64 l))
+pub turned_found : (t : FeeTable) (i n k : ℕ) → i < n → turned64 t i ≡ 0 → k ≡ above_of (get_or t.lowest i 0) (get_or t.highest i 0) 64 → 0 < k → k ≡ turned64 t n
+turned_found t i n k m h e l = sym (scan_stop (turned64 t) _ (turned_turn t) i n k m l h (sym e))
 
 -- ---- the fees play no part
-
-turned_same : (l h f g : List ℕ) (n : ℕ) → turned64 (fee_table l h f) n ≡ turned64 (fee_table l h g) n
-unfolding turned64
-turned_same l h f g zero = refl
-turned_same l h f g (suc n) = rw (turned_same l h f g n)
 
 times-same : (l h f g : List ℕ) (o n : ℕ) → times_in (fee_table l h f) o n ≡ times_in (fee_table l h g) o n
 unfolding times_in in_row
@@ -89,8 +89,8 @@ count_out t o k n r b s e h =
     let q : in_row t o k ≡ false = sym e ∙ h in
     record { few = omega (arith, s.few); times = rw (add-one k, q, ← s.times) (omega arith); row = rw (add-one k, q) s.row }
 
-pub count-all : (l h : List ℕ) (o k n i : ℕ) (r : Found) → Counted (fee_table l h []) o k n i → k ≤ length l → length l ≤ k → r.times ≡ n → r.row ≡ i → FoundIn l h o r
-count-all l h o k n i r s u v e d = record {
+pub count_all : (l h : List ℕ) (o k n i : ℕ) (r : Found) → Counted (fee_table l h []) o k n i → k ≡ length l → r.times ≡ n → r.row ≡ i → FoundIn l h o r
+count_all l h o k n i r s u e d = record {
   times = λ f q. let w : k ≡ length f = omega arith in e ∙ s.times ∙ times-same l h [] f o k ∙ ap (times_in (fee_table l h f) o) w;
   row = λ f q. let w : k ≡ length f = omega arith in d ∙ s.row ∙ last-same l h [] f o k ∙ ap (last_in (fee_table l h f) o) w;
 }
@@ -98,45 +98,39 @@ count-all l h o k n i r s u v e d = record {
 -- ---- 65 and 66
 
 -- a number that is carried so far stays, else the next opcode is tried
-carried : (k g n r : ℕ) (b : Bool) → 0 < k → n < opcodes → r ≡ cond (ltb g opcodes) g (cond b n opcodes) → carrying k r ≡ earlier (carrying k g) (cond b (refusal k n 0 0) (plainly 0))
-carried k g n r b h l e = rw e (go (ltb g opcodes) b refl)
-  where
-    go : (x y : Bool) → ltb g opcodes ≡ x → carrying k (cond x g (cond y n opcodes)) ≡ earlier (cond x (refusal k g 0 0) (plainly 0)) (cond y (refusal k n 0 0) (plainly 0))
-    go true y q = rw (q, ne_eqb k 0 (λ z. omega arith))
-    go false true q = rw (lt-ltb n opcodes l)
-    go false false q = refl
+carried : (k n : ℕ) (g : Option ℕ) (b : Bool) → 0 < k → carrying k (option_or g (then_some b n)) ≡ earlier (carrying k g) (cond b (refusal k n 0 0) (plainly 0))
+carried k n (Some o) b h = rw (ne_eqb k 0 (λ z. omega arith))
+carried k n None true h = refl
+carried k n None false h = refl
 
 -- an opcode that is none changes nothing
-passed : (k g : ℕ) → 0 < k → carrying k g ≡ earlier (carrying k g) (plainly 0)
-passed k g h = go (ltb g opcodes)
-  where
-    go : (x : Bool) → cond x (refusal k g 0 0) (plainly 0) ≡ earlier (cond x (refusal k g 0 0) (plainly 0)) (plainly 0)
-    go true = rw (ne_eqb k 0 (λ z. omega arith))
-    go false = refl
+passed : (k : ℕ) (g : Option ℕ) → 0 < k → carrying k g ≡ earlier (carrying k g) (plainly 0)
+passed k (Some o) h = rw (ne_eqb k 0 (λ z. omega arith))
+passed k None h = refl
 
 module _ (k : ℕ) (test : ℕ → Bool) (h : 0 < k) where
-  lowest_known : (n g r : ℕ) → n < opcodes → known_in (decode n) ≡ true → carrying k g ≡ lowest_opcode k test n → r ≡ cond (ltb g opcodes) g (cond (test n) n opcodes) → carrying k r ≡ lowest_opcode k test (n + 1)
+  lowest_known : (n : ℕ) (g r : Option ℕ) → known_in (decode n) ≡ true → carrying k g ≡ lowest_opcode k test n → r ≡ option_or g (then_some (test n) n) → carrying k r ≡ lowest_opcode k test (n + 1)
   unfolding lowest_opcode
-  lowest_known n g r l q e d = rw (add-one n, q, ← e) (carried k g n r (test n) h l d)
+  lowest_known n g r q e d = rw (add-one n, q, ← e, d) (carried k n g (test n) h)
 
-  lowest_unknown : (n g : ℕ) → known_in (decode n) ≡ false → carrying k g ≡ lowest_opcode k test n → carrying k g ≡ lowest_opcode k test (n + 1)
+  lowest_unknown : (n : ℕ) (g : Option ℕ) → known_in (decode n) ≡ false → carrying k g ≡ lowest_opcode k test n → carrying k g ≡ lowest_opcode k test (n + 1)
   unfolding lowest_opcode
   lowest_unknown n g q e = rw (add-one n, q, ← e) (passed k g h)
 
 -- ---- the pass over the opcodes
 
--- behind the first n: g and w are the lowest opcode in no row and in two, 128 where there is none
-pub record Passed (t : FeeTable) (g w n : ℕ) (ps : List ℕ) : Type 0 where
+-- behind the first n: g and w are the lowest opcode in no row and in two
+pub record Passed (t : FeeTable) (g w : Option ℕ) (n : ℕ) (ps : List ℕ) : Type 0 where
   pub gap : carrying 65 g ≡ lowest_opcode 65 (λ o. eqb (times t o) 0) n
   pub twice : carrying 66 w ≡ lowest_opcode 66 (λ o. ltb 1 (times t o)) n
   pub priceable : Priceable ps
   pub is : (o : ℕ) → o < n → known_in (decode o) ≡ true → get_or ps o 0 ≡ price_of t o
 
-pub pass_none : (t : FeeTable) (ps : List ℕ) → Priceable ps → Passed t 128 128 0 ps
+pub pass_none : (t : FeeTable) (ps : List ℕ) → Priceable ps → Passed t None None 0 ps
 unfolding lowest_opcode
 pass_none t ps h = record { gap = refl; twice = refl; priceable = h; is = λ o l _. absurd (omega arith) }
 
-pub pass_unknown : (t : FeeTable) (g w n : ℕ) (ps : List ℕ) → Passed t g w n ps → known_in (decode n) ≡ false → Passed t g w (n + 1) ps
+pub pass_unknown : (t : FeeTable) (g w : Option ℕ) (n : ℕ) (ps : List ℕ) → Passed t g w n ps → known_in (decode n) ≡ false → Passed t g w (n + 1) ps
 pass_unknown t g w n ps s e = record {
   gap = lowest_unknown 65 _ (omega arith) n g e s.gap;
   twice = lowest_unknown 66 _ (omega arith) n w e s.twice;
@@ -166,22 +160,22 @@ set_is t ps n v l h k o m d = go (eqb o n) refl
     go true q = rw (eqb-true o n q, get_or-set_same ps n v 0 l) h
     go false q = let y : o ≡ n → ⊥ = eqb-false o n q in rw (get_or-set_other ps n o v 0 y) (k o (omega arith) d)
 
-pub pass-known :
-    (t : FeeTable) (g w n x y v : ℕ) (ps : List ℕ) (r : Found) → Shaped t → Passed t g w n ps → n < opcodes → known_in (decode n) ≡ true → FoundIn t.lowest t.highest n r →
-    x ≡ cond (ltb g opcodes) g (cond (eqb r.times 0) n opcodes) → y ≡ cond (ltb w opcodes) w (cond (ltb 1 r.times) n opcodes) → v ≡ get_or t.fees r.row 0 →
+pub pass_known :
+    (t : FeeTable) (g w x y : Option ℕ) (n v : ℕ) (ps : List ℕ) (r : Found) → Shaped t → Passed t g w n ps → n < opcodes → known_in (decode n) ≡ true → FoundIn t.lowest t.highest n r →
+    x ≡ option_or g (then_some (eqb r.times 0) n) → y ≡ option_or w (then_some (ltb 1 r.times) n) → v ≡ get_or t.fees r.row 0 →
     Passed t x y (n + 1) (set ps n v)
-pass-known t g w n x y v ps r c s l e f hx hy hv =
+pass_known t g w x y n v ps r c s l e f hx hy hv =
     let a = s.priceable.all in
     let p : v ≡ price_of t n = hv ∙ ap (λ k. get_or t.fees k 0) (f.row t.fees c.lowest) in
     let q : r.times ≡ times t n = f.times t.fees c.lowest in
     record {
-      gap = lowest_known 65 _ (omega arith) n g x l e s.gap (rw q at hx);
-      twice = lowest_known 66 _ (omega arith) n w y l e s.twice (rw q at hy);
+      gap = lowest_known 65 _ (omega arith) n g x e s.gap (rw q at hx);
+      twice = lowest_known 66 _ (omega arith) n w y e s.twice (rw q at hy);
       priceable = record { all = length-set ps n v ∙ a; narrow = set_narrow ps n v (omega arith) (rw p (c.narrow (row_for t n))) s.priceable.narrow };
       is = set_is t ps n v (omega arith) p s.is;
     }
 
-pub pass_all : (t : FeeTable) (g w n : ℕ) (r : Fault) (ps : List ℕ) → Passed t g w n ps → n ≡ opcodes → refusal_in r ≡ earlier (carrying 65 g) (carrying 66 w) → OpcodesChecked t r ps
+pub pass_all : (t : FeeTable) (g w : Option ℕ) (n : ℕ) (r : Result (Unit {0}) FeeError) (ps : List ℕ) → Passed t g w n ps → n ≡ opcodes → found_fee r ≡ earlier (carrying 65 g) (carrying 66 w) → OpcodesChecked t r ps
 unfolding unpriced65 priced_twice66
 pass_all t g w n r ps s q e = record {
   fault = rw q at (rw (s.gap, s.twice) at e);
@@ -190,58 +184,105 @@ pass_all t g w n r ps s q e = record {
 
 -- ---- 64, then 65 and 66
 
-pub rows_is : (l h f : List ℕ) (n x y : ℕ) → length l ≡ length f → n ≡ first_of x y → x ≡ above_of (length f) 64 64 → y ≡ turned64 (fee_table l h []) (length l) → n ≡ rows64 (fee_table l h f)
-unfolding rows64
-rows_is l h f n x y q e d c = e ∙ rw (d, c, q, turned_same l h [] f (length f))
+not_ok : false ≡ true → ⊥
+not_ok z = true≢false (sym z)
 
-pub table-rows : (t : FeeTable) (n : ℕ) (r : Fault) (ps : List ℕ) → n ≡ rows64 t → (n ≡ 0 → ⊥) → refusal_in r ≡ plainly n → TableChecked t r ps
+pub rows_many : (t : FeeTable) → 64 < length t.fees → plainly 64 ≡ plainly (rows64 t)
+unfolding rows64 first_of
+rows_many t l = rw (above-is (length t.fees) 64 64 l) refl
+
+rows_turned : (t : FeeTable) → length t.fees ≤ 64 → length t.lowest ≡ length t.fees → rows64 t ≡ turned64 t (length t.lowest)
+unfolding rows64 first_of
+rows_turned t l e = rw (above-not (length t.fees) 64 64 l, e) refl
+
+pub rows_found : (t : FeeTable) (i : ℕ) (e : FeeError) → length t.fees ≤ 64 → length t.lowest ≡ length t.fees → i < length t.lowest → turned64 t i ≡ 0 →
+    fee_refusal e ≡ plainly (above_of (get_or t.lowest i 0) (get_or t.highest i 0) 64) → fee_refusal e ≡ plainly (rows64 t)
+rows_found t i e l p m h d =
+    let k = ap (λ x. x.number) d in
+    let z : 0 < above_of (get_or t.lowest i 0) (get_or t.highest i 0) 64 = above_zero k in
+    d ∙ ap plainly (turned_found t i (length t.lowest) _ m h refl z ∙ sym (rows_turned t l p))
+  where
+    above_zero : {n : ℕ} → (fee_refusal e).number ≡ n → 0 < n
+    above_zero {n} k = omega (arith, k, fee_some e)
+
+pub rows_end : (t : FeeTable) (i : ℕ) → length t.fees ≤ 64 → length t.lowest ≡ length t.fees → i ≤ length t.lowest → length t.lowest ≤ i → turned64 t i ≡ 0 → plainly 0 ≡ plainly (rows64 t)
+rows_end t i l p u v h =
+    let e : i ≡ length t.lowest = omega arith in
+    ap plainly (sym (rows_turned t l p ∙ ap (turned64 t) (sym e) ∙ h))
+
+-- what a `?` hands on
+pub fee_handed : {A : Type 0} (r : Result A FeeError) (e : FeeError) (x : Refusal) → IsErrAnd r (λ k. k ≡ e) → fee_refusal e ≡ x → found_fee r ≡ x
+fee_handed (Ok v) e x h k = absurd h
+fee_handed (Err d) e x h k = rw h k
+
+pub table_rows : (t : FeeTable) (r : Result (Unit {0}) FeeError) (e : FeeError) (ps : List ℕ) → fee_refusal e ≡ plainly (rows64 t) → IsErrAnd r (λ x. x ≡ e) → TableChecked t r ps
 unfolding table_fault
-table-rows t n r ps e h d = record {
-  fault = d ∙ rw (← e, ne_eqb n 0 h);
-  prices = λ z. absurd (h (ap (λ x. x.number) (sym d) ∙ z));
+table_rows t (Ok v) e ps h d = absurd d
+table_rows t (Err x) e ps h d = record {
+  fault = ap fee_refusal d ∙ h ∙ rw (ne_eqb (rows64 t) 0 (λ z. omega (arith, fee_some e, ap (λ x. x.number) h))) refl;
+  prices = λ z. absurd (not_ok z);
 }
 
-pub table-opcodes : (t : FeeTable) (n : ℕ) (r : Fault) (ps : List ℕ) → n ≡ rows64 t → n ≡ 0 → OpcodesChecked t r ps → TableChecked t r ps
+pub table_opcodes : (t : FeeTable) (r : Result (Unit {0}) FeeError) (ps : List ℕ) → plainly 0 ≡ plainly (rows64 t) → OpcodesChecked t r ps → TableChecked t r ps
 unfolding table_fault
-table-opcodes t n r ps e h s = record { fault = s.fault ∙ rw (← e, h); prices = λ _. s.prices }
+table_opcodes t r ps e s = record { fault = s.fault ∙ rw (← (ap (λ x. x.number) e)) refl; prices = λ _. s.prices }
 
 -- ---- a call with a table, or without
 
-pub shaped : (t : FeeTable) → table1 t ≡ 0 → Shaped t
-shaped t e = record { lowest = table_lowest t e; highest = table-highest t e; narrow = λ k. table_narrow t k e }
+pub shaped : (t : FeeTable) → 0 ≡ table1 t → Shaped t
+shaped t e = record { lowest = table_lowest t (sym e); highest = table-highest t (sym e); narrow = λ k. table_narrow t k (sym e) }
 
--- the slices' number before place A's
-pub slices-fine : (t : FeeTable) (n k x : ℕ) → k ≡ first_of x n → x ≡ table1 t → k ≡ 0 → Shaped t
-slices-fine t n k x e d h = shaped t (sym d ∙ (first-nil x n (sym e ∙ h)).0)
+-- an error that is handed on
+refused : (r : Result (Unit {0}) InstructionError) (e : InstructionError) → IsErrAnd r (λ x. x ≡ e) → (found r ≡ refusal_of e) × (IsOk r → ⊥)
+refused (Ok v) e h = absurd h
+refused (Err x) e h = (ap refusal_of h, not_ok)
 
-pub fees-number : (p : Bool) (t : FeeTable) (n k x : ℕ) (r : Fault) (ps : List ℕ) → p ≡ true → k ≡ first_of x n → x ≡ table1 t → (k ≡ 0 → ⊥) → refusal_in r ≡ plainly k → FeesChecked p t n r ps
-fees-number p t n k x r ps b e d h c = record {
-  fault = c ∙ rw (b, ← d, ← e, ne_eqb k 0 h);
-  prices = λ z _. absurd (h (ap (λ x. x.number) (sym c) ∙ z));
-}
+-- the slices' number comes before place A's
+pub fees_slices : (t : FeeTable) (n : ℕ) (r : Result (Unit {0}) InstructionError) (e : PlaceA) (ps : List ℕ) → number_a e ≡ table1 t → IsErrAnd r (λ x. x ≡ E.Handed e) → FeesChecked (priced t) n r ps
+unfolding refusal_of first_of
+fees_slices t n r e ps h d =
+    let x = refused r (E.Handed e) d in
+    let k : table1 t ≡ 0 → ⊥ = λ z. omega (arith, number_a_some e, h) in
+    record {
+      fault = x.0 ∙ rw (h, ne_eqb (table1 t) 0 k, ne_eqb (table1 t) 0 k) refl;
+      prices = λ z. absurd (x.1 z);
+    }
 
-pub fees-table : (p : Bool) (t : FeeTable) (n k x : ℕ) (r : Fault) (ps : List ℕ) → p ≡ true → k ≡ first_of x n → x ≡ table1 t → k ≡ 0 → TableChecked t r ps → FeesChecked p t n r ps
-fees-table p t n k x r ps b e d h s = record {
-  fault = s.fault ∙ rw (b, ← d, ← e, h);
-  prices = λ z _. s.prices z;
-}
+pub fees_handed : (t : FeeTable) (n : ℕ) (r : Result (Unit {0}) InstructionError) (e : PlaceA) (ps : List ℕ) → 0 ≡ table1 t → number_a e ≡ n → IsErrAnd r (λ x. x ≡ E.Handed e) → FeesChecked (priced t) n r ps
+unfolding refusal_of first_of
+fees_handed t n r e ps g h d =
+    let x = refused r (E.Handed e) d in
+    let k : n ≡ 0 → ⊥ = λ z. omega (arith, number_a_some e, h) in
+    record {
+      fault = x.0 ∙ rw (h, ← g, ne_eqb n 0 k) refl;
+      prices = λ z. absurd (x.1 z);
+    }
 
-pub fees-none : (p : Bool) (t : FeeTable) (n : ℕ) (r : Fault) (ps : List ℕ) → p ≡ false → refusal_in r ≡ plainly n → FeesChecked p t n r ps
-fees-none p t n r ps b c = record {
-  fault = rw b c;
-  prices = λ _ a. let v : true ≡ false = sym a ∙ b in let z : ◌≡◌ {A = ℕ} 0 1 = cc in absurd (omega arith);
-}
+pub fees_table : (t : FeeTable) (n : ℕ) (r : Result (Unit {0}) InstructionError) (e : FeeError) (ps : List ℕ) → 0 ≡ table1 t → 0 ≡ n → TableChecked t (Err e) ps → IsErrAnd r (λ x. x ≡ E.Fees e) → FeesChecked (priced t) n r ps
+unfolding refusal_of first_of
+fees_table t n r e ps g h s d =
+    let x = refused r (E.Fees e) d in
+    record {
+      fault = x.0 ∙ s.fault ∙ rw (← g, ← h) refl;
+      prices = λ z. absurd (x.1 z);
+    }
+
+pub fees_none : (n : ℕ) (r : Result (Unit {0}) InstructionError) (e : PlaceA) (ps : List ℕ) → number_a e ≡ n → IsErrAnd r (λ x. x ≡ E.Handed e) → FeesChecked unpriced n r ps
+unfolding refusal_of
+fees_none n r e ps h d =
+    let x = refused r (E.Handed e) d in
+    record { fault = x.0 ∙ rw h refl; prices = λ z. absurd (x.1 z) }
+
+pub fees_unpriced : (n : ℕ) (v : Unit {0}) (ps : List ℕ) → 0 ≡ n → FeesChecked unpriced n (Ok v) ps
+fees_unpriced n v ps h = record { fault = rw h refl; prices = λ _. tt }
 
 -- for callers: nothing is wrong where the code says so
-pub fees-fine : (p : Bool) (t : FeeTable) (n : ℕ) (r : Fault) (ps : List ℕ) → FeesChecked p t n r ps → r.number ≡ 0 → (checked (fees_in p t) n).number ≡ 0
-fees-fine p t n r ps s z = ap (λ x. x.number) (sym s.fault) ∙ z
+pub fees_fine : (f : Fees) (n : ℕ) (r : Result (Unit {0}) InstructionError) (ps : List ℕ) → FeesChecked f n r ps → IsOk r → (checked f n).number ≡ 0
+fees_fine f n (Ok v) ps s z = ap (λ x. x.number) (sym s.fault)
+fees_fine f n (Err e) ps s z = absurd (not_ok z)
 
 -- ---- what the calls hand in
 
 -- prices before a table is looked at
 pub zeros_priceable : Priceable (replicate 128 0)
 zeros_priceable = record { all = length-replicate {A = ℕ} 128 0; narrow = λ o. rw (zeros_get_d 128 o) (omega arith) }
-
--- without a table they are not looked at
-pub unpriceable : (ps : List ℕ) → false ≡ true → Priceable ps
-unpriceable ps e = absurd (true≢false (sym e))

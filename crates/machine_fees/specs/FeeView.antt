@@ -1,18 +1,29 @@
 -- What the code's answers about a fee table stand for.
-use Rattle.std.specs.Prelude.{ℕ, ◌≤◌, ◌≡◌, Bool, true, List, length, get_or, ltb}
-use Rattle.choices.specs.Choice.{cond}
-use Rattle.machine.specs.Refusal.{Refusal, refusal, plainly}
+use Rattle.std.specs.Prelude.{ℕ, ◌≤◌, ◌≡◌, true, List, length, get_or, Result, Ok, Err, IsOk, Option, Some, None, ⊤}
+use Rattle.machine.specs.declared.refusal.FeeError.{FeeError}
+use Rattle.machine.specs.declared.refusal.InstructionError.{InstructionError}
+use Rattle.machine.specs.Refusal.{Refusal, refusal, plainly, fee_refusal, found}
 use Rattle.machine.specs.Instruction.{decode, known_in}
-use Rattle.machine.specs.FeeTable.{FeeTable, fee_table, times, row_for, price_of, earlier, opcodes, unpriced65, priced_twice66, table_fault, Fees, unpriced, priced, checked}
+use Rattle.machine.specs.FeeTable.{FeeTable, fee_table, times, row_for, price_of, earlier, unpriced65, priced_twice66, table_fault, Fees, unpriced, priced, checked}
 use Rattle.machine_fees.specs.declared.fee_table.Found.{Found}
-use Rattle.machine_fees.specs.declared.fee_table.Fault.{Fault}
+use Rattle.machine_fees.specs.declared.fee_table.LentFees.{LentFees}
 
-abbrev pub refusal_in : Fault → Refusal
-refusal_in r = refusal r.number r.opcode 0 0
+abbrev pub table_of : LentFees → FeeTable
+table_of t = fee_table t.lowest.now t.highest.now t.fees.now
 
--- the number with the opcode that it carries; 128, which is no opcode, is none
-abbrev pub carrying : ℕ → ℕ → Refusal
-carrying n o = cond (ltb o opcodes) (refusal n o 0 0) (plainly 0)
+abbrev pub fees_of : Option LentFees → Fees
+fees_of None = unpriced
+fees_of (Some t) = priced (table_of t)
+
+-- what is found wrong with a table, number 0 where nothing is
+abbrev pub found_fee : {A : Type 0} → Result A FeeError → Refusal
+found_fee (Ok _) = plainly 0
+found_fee (Err e) = fee_refusal e
+
+-- the number with the opcode that it carries, where there is one
+abbrev pub carrying : ℕ → Option ℕ → Refusal
+carrying n None = plainly 0
+carrying n (Some o) = refusal n o 0 0
 
 -- in how many rows an opcode lies, and the last of them, in a table with these bounds, whatever its fees
 pub record FoundIn (l h : List ℕ) (o : ℕ) (r : Found) : Type 0 where
@@ -36,20 +47,21 @@ pub record PricesOf (t : FeeTable) (ps : List ℕ) : Type 0 where
   pub is : (o : ℕ) → known_in (decode o) ≡ true → get_or ps o 0 ≡ price_of t o
 
 -- what is wrong with the opcodes of a table, and the prices, which a bad one leaves too
-pub record OpcodesChecked (t : FeeTable) (r : Fault) (ps : List ℕ) : Type 0 where
-  pub fault : refusal_in r ≡ earlier (unpriced65 t) (priced_twice66 t)
+pub record OpcodesChecked (t : FeeTable) (r : Result (Unit {0}) FeeError) (ps : List ℕ) : Type 0 where
+  pub fault : found_fee r ≡ earlier (unpriced65 t) (priced_twice66 t)
   pub prices : PricesOf t ps
 
 -- what is wrong with a table, and the prices of one with which nothing is
-pub record TableChecked (t : FeeTable) (r : Fault) (ps : List ℕ) : Type 0 where
-  pub fault : refusal_in r ≡ table_fault t
-  pub prices : r.number ≡ 0 → PricesOf t ps
+pub record TableChecked (t : FeeTable) (r : Result (Unit {0}) FeeError) (ps : List ℕ) : Type 0 where
+  pub fault : found_fee r ≡ table_fault t
+  pub prices : IsOk r → PricesOf t ps
 
--- a table, where the mark says that one is handed in
-abbrev pub fees_in : Bool → FeeTable → Fees
-fees_in p t = cond p (priced t) unpriced
+-- what a call with such a table relies on; without one the prices are of no use
+abbrev pub Pricing : Fees → List ℕ → Type 0
+Pricing unpriced ps = ⊤
+Pricing (priced t) ps = PricesOf t ps
 
--- the same with place A's number n; without a table the prices are of no use
-pub record FeesChecked (p : Bool) (t : FeeTable) (n : ℕ) (r : Fault) (ps : List ℕ) : Type 0 where
-  pub fault : refusal_in r ≡ checked (fees_in p t) n
-  pub prices : r.number ≡ 0 → p ≡ true → PricesOf t ps
+-- the same with place A's number n, with a table or without
+pub record FeesChecked (f : Fees) (n : ℕ) (r : Result (Unit {0}) InstructionError) (ps : List ℕ) : Type 0 where
+  pub fault : found r ≡ checked f n
+  pub prices : IsOk r → Pricing f ps

@@ -1,29 +1,28 @@
 -- What open makes of the stacks, and its answers where place A and the fee table accept and where they refuse. Assumes nothing.
 use mathlib.Core.Path.{◌≡◌, refl, sym, ap, ◌∙◌}
-use mathlib.Core.Bool.{Bool}
+use mathlib.Core.Bool.{true≢false}
 use mathlib.Core.List.{List, [], ◌∷◌, append-nil}
 use Prim.Native.Nat.{ℕ, ◌+◌, ◌-◌, ◌≤◌}
 use native.Mathlib.Omega.{arith}
 use lib.ListN.{length, get_or, take, drop, replicate, length-drop, length-replicate, drop_of_length-le}
 use lib.Seq.{take_all}
-use Rattle.machine.specs.declared.refusal.InstructionError.TheVariants as I
+use Rattle.std.specs.Prelude.{Result, Ok, Err, IsErrAnd}
+use Rattle.machine.specs.declared.refusal.InstructionError.{InstructionError}
 use Rattle.machine.specs.declared.state.VMState.{VMState}
 use Rattle.machine_isa.specs.Copied.{copied}
-use Rattle.machine.specs.Refusal.{Refusal}
+use Rattle.machine.specs.Refusal.{Refusal, refusal_of}
 use Rattle.machine.specs.Machine.{Code, Memory, memory}
-use Rattle.machine.specs.Apply.{applied_stack}
+use Rattle.machine.specs.Apply.{applied_stack, kept}
 use Rattle.machine.specs.PlaceA.{memory1, open_a}
-use Rattle.machine.specs.FeeTable.{FeeTable, checked}
+use Rattle.machine.specs.FeeTable.{Fees, checked}
 use Rattle.machine.specs.Open.{opened_stack, opened}
 use Rattle.choices.proofs.Choice.{first-nil, above-nil}
 use Rattle.machine_isa.proofs.Copies.{fill_end}
 use Rattle.machine.proofs.FeeTable.{checked-number}
-use Rattle.machine.proofs.Refused.{checked-is, open_accepts, open_refuses}
-use Rattle.machine_fees.specs.declared.fee_table.Fault.{Fault}
-use Rattle.machine_fees.specs.FeeView.{refusal_in, fees_in, FeesChecked}
-use Rattle.machine_perform.specs.declared.answer.Answer.TheVariants.{Took, Refused}
-use Rattle.machine_perform.specs.AnswerView.{turned}
-use Rattle.machine_open.specs.OpenView.{registers_of, no_state, Opens}
+use Rattle.machine.proofs.Refused.{refusal_some, open_accepts, open_refuses}
+use Rattle.machine_fees.specs.FeeView.{FeesChecked}
+use Rattle.machine_fees.proofs.FeeLaws.{fees_fine}
+use Rattle.machine_open.specs.OpenView.{registers_of, Opens}
 
 -- ---- the stacks
 
@@ -50,27 +49,31 @@ wiped s {r} h =
 
 -- ---- the answers
 
+-- m is the memory as it is looked at
+pub open_number : (v : ℕ) (g : List ℕ) (c : Code) {m l : Memory} (k : ℕ) {n : ℕ} → l ≡ m → n ≡ open_a v g c l k → n ≡ open_a v g c m k
+open_number v g c k h e = e ∙ rw h refl
+
 -- what place A and the fee table, where there is one, say
-module _ (v : ℕ) (g : List ℕ) (c : Code) (m : Memory) (k : ℕ) {p : Bool} {t : FeeTable} {n : ℕ} {x : Fault} {qs : List ℕ} (h : n ≡ open_a v g c m k) (w : FeesChecked p t n x qs) where
-  wrong-is : refusal_in x ≡ checked (fees_in p t) (open_a v g c m k)
-  wrong-is = w.fault ∙ ap (checked (fees_in p t)) h
+module _ (f : Fees) (v : ℕ) (g : List ℕ) (c : Code) (m : Memory) (k : ℕ) {n : ℕ} {qs : List ℕ} (h : n ≡ open_a v g c m k) where
+  module _ {u : Unit {0}} (w : FeesChecked f n (Ok u) qs) where
+    right : (checked f (open_a v g c m k)).number ≡ 0
+    right = ap (λ (x : ℕ). (checked f x).number) (sym h) ∙ fees_fine f n (Ok u) qs w refl
 
-  right : x.number ≡ 0 → (checked (fees_in p t) (open_a v g c m k)).number ≡ 0
-  right z = ap (λ (r : Refusal). r.number) (sym wrong-is) ∙ z
+    pub open_deep : 16 ≤ length m.op_stack
+    unfolding open_a memory1
+    open_deep =
+        let a = checked-number f (open_a v g c m k) right in
+        above-nil _ _ 1 (omega arith) (first-nil _ _ (first-nil _ _ (first-nil _ _ (first-nil _ _ a).0).1).1).0
 
-  pub open_deep : x.number ≡ 0 → 16 ≤ length m.op_stack
-  unfolding open_a memory1
-  open_deep z =
-      let a = checked-number (fees_in p t) (open_a v g c m k) (right z) in
-      above-nil _ _ 1 (omega arith) (first-nil _ _ (first-nil _ _ (first-nil _ _ (first-nil _ _ a).0).1).1).0
+    pub open_took : {s : VMState} {stack origins destinations : List ℕ} → s ≡ registers_of 16 k v → stack ≡ opened_stack g m.op_stack →
+        origins ≡ replicate (length m.origins) 0 → destinations ≡ replicate (length m.destinations) 0 →
+        Opens f v g c m k (Ok s) (memory stack origins destinations m.addresses m.values m.output)
+    unfolding opened
+    open_took e a o d = record { is = rw (open_accepts f v g c m k right, e, a, o, d) refl; stays = λ z. absurd (true≢false (sym z)) }
 
-  pub open_took : x.number ≡ 0 → {s : VMState} {stack origins destinations : List ℕ} → s ≡ registers_of 16 k v → stack ≡ opened_stack g m.op_stack →
-      origins ≡ replicate (length m.origins) 0 → destinations ≡ replicate (length m.destinations) 0 →
-      Opens (fees_in p t) v g c m k (record { answer = Took; state = s }) (memory stack origins destinations m.addresses m.values m.output)
-  unfolding opened
-  open_took z e f o d = record { is = rw (open_accepts (fees_in p t) v g c m k (right z)) (record { answer = refl; left = rw (e, f, o, d) }) }
-
-  pub open_kept : (x.number ≡ 0 → ⊥) → {s : VMState} → s ≡ no_state → Opens (fees_in p t) v g c m k (record { answer = Refused (I.Checked x.number x.opcode); state = s }) m
-  open_kept z e =
-      let y = open_refuses (fees_in p t) v g c m k (λ y. z (ap (λ (r : Refusal). r.number) wrong-is ∙ y)) in
-      record { is = rw y (record { answer = ap turned (checked-is x.number x.opcode ∙ wrong-is); left = rw e }) }
+  pub open_kept : (e : InstructionError) (r : Result VMState InstructionError) → FeesChecked f n (Err e) qs → IsErrAnd r (λ x. x ≡ e) → Opens f v g c m k r m
+  open_kept e (Ok s) w d = absurd d
+  open_kept e (Err x) w d =
+      let wrong : refusal_of e ≡ checked f (open_a v g c m k) = w.fault ∙ ap (checked f) h in
+      let y = open_refuses f v g c m k (λ z. omega (arith, refusal_some e, ap (λ (r : Refusal). r.number) wrong ∙ z)) in
+      record { is = rw y (ap kept (ap refusal_of d ∙ wrong)); stays = λ _. refl }

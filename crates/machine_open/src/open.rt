@@ -1,16 +1,15 @@
 // open: place A, and the fee table where one is handed in, then the machine before its first step.
-ghost use Rattle.std.specs.Prelude.{◌≡◌, true, ◌≤◌, length, replicate};
-ghost use Rattle.machine.specs.Lent.{code_in, opening_in, opening_out};
-ghost use Rattle.machine.specs.FeeTable.{fee_table, unpriced, priced};
+ghost use Rattle.std.specs.Prelude.{◌≡◌, ◌≤◌, length, replicate, IsSome};
+ghost use Rattle.machine.specs.Lent.{code_of, opening_of, KeepsOpening};
 ghost use Rattle.machine.specs.Open.{opened_stack};
-ghost use Rattle.machine_fees.specs.FeeView.{Priceable, fees_in};
+ghost use Rattle.machine_fees.specs.FeeView.{Priceable, fees_of};
 ghost use Rattle.machine_open.specs.OpenView.{registers_of, Opens};
 
+use machine::lent::{LentCode, OpeningMemory};
 use machine::refusal::InstructionError;
 use machine::state::VMState;
-use machine_fees::fee_table::check_fees;
+use machine_fees::fee_table::{LentFees, check_fees};
 use machine_isa::op_stack::{apply, clear};
-use machine_perform::answer::{Answer, Moved};
 use machine_place_a::checks::check_open;
 use tip5::sponge::Sponge;
 
@@ -39,9 +38,9 @@ fn registers(depth: usize, cells: usize, revision: u64) -> VMState
 }
 
 // The digest reversed at the bottom, and zeros above: all words are taken off, and these five put on.
-fn open_stack(s: &mut [u64], digest: [u64; 5])
+fn open_stack(s: &mut [u64], digest: &[u64; 5])
     requires { 16 ≤ length s.old }
-    ensures { s.new ≡ opened_stack digest s.old }
+    ensures { s.new ≡ opened_stack digest.now s.old }
 {
     let words = [
         digest[4], digest[3], digest[2], digest[1], digest[0], 0, 0, 0, 0, 0, 0, 0, 0, 0, 0, 0,
@@ -58,156 +57,49 @@ fn wipe(s: &mut [u64])
     clear(s, 0, n);
 }
 
-// With a table or without; an opening only looks at it.
+// An opening only looks at a table.
 fn checked(
-    pricing: bool,
-    revision: u64,
-    digest: [u64; 5],
-    cells: usize,
-    opcodes: &[u64],
-    arguments: &[u64],
-    public: &[u64],
-    secret: &[u64],
-    digests: &[u64],
-    op_stack: &mut [u64],
-    origins: &mut [u64],
-    destinations: &mut [u64],
-    addresses: &[u64],
-    values: &[u64],
-    output: &[u64],
-    lowest: &[u64],
-    highest: &[u64],
-    fees: &[u64],
+    fees: Option<LentFees<'_>>,
     prices: &mut [u64],
-) -> Moved
-    requires { pricing ≡ true → Priceable prices.old }
-    ensures { Opens (fees_in pricing (fee_table lowest.now highest.now fees.now)) revision digest (code_in opcodes arguments public secret digests)
-        (opening_in op_stack origins destinations addresses values output)
-        cells result (opening_out op_stack origins destinations addresses values output) }
+    revision: u64,
+    digest: &[u64; 5],
+    cells: usize,
+    code: &LentCode<'_>,
+    memory: &mut OpeningMemory<'_>,
+) -> Result<VMState, InstructionError>
+    requires { IsSome fees → Priceable prices.old }
+    ensures opens { Opens (fees_of fees.entry) revision digest.now (code_of code.now) (opening_of memory.old) cells result (opening_of memory.new) }
+    ensures lent { KeepsOpening memory.old memory.new }
 {
-    let n = check_open(
-        revision,
-        digest,
-        opcodes,
-        arguments,
-        public,
-        secret,
-        digests,
-        op_stack,
-        origins,
-        destinations,
-        addresses,
-        values,
-        output,
-        cells,
-    );
-    let fault = check_fees(pricing, n, lowest, highest, fees, prices);
-    if fault.number == 0 {
-        open_stack(op_stack, digest);
-        wipe(origins);
-        wipe(destinations);
-        Moved {
-            answer: Answer::Took,
-            state: registers(16, cells, revision),
+    let handed = check_open(revision, digest, code, &memory.look(), cells);
+    check_fees(fees, handed, prices)?;
+    open_stack(memory.op_stack, digest);
+    wipe(memory.origins);
+    wipe(memory.destinations);
+    Ok(registers(16, cells, revision))
+}
+
+// With a log of the revision chosen. RAM and output are looked at and stay. Refused, nothing lent is changed. A fee table is looked at last of all and not
+// kept.
+pub fn open(
+    fees: Option<LentFees<'_>>,
+    revision: u64,
+    digest: &[u64; 5],
+    cells: usize,
+    code: &LentCode<'_>,
+    memory: &mut OpeningMemory<'_>,
+) -> Result<VMState, InstructionError>
+    ensures opens { Opens (fees_of fees.entry) revision digest.now (code_of code.now) (opening_of memory.old) cells result (opening_of memory.new) }
+    ensures lent { KeepsOpening memory.old memory.new }
+{
+    match fees {
+        None => {
+            let mut none = [0u64; 1];
+            checked(None, &mut none, revision, digest, cells, code, memory)
         }
-    } else {
-        Moved {
-            answer: Answer::Refused(InstructionError::Checked(fault.number, fault.opcode)),
-            state: registers(0, 0, 0),
+        Some(_) => {
+            let mut prices = [0u64; 128];
+            checked(fees, &mut prices, revision, digest, cells, code, memory)
         }
     }
-}
-
-// With a log of the revision chosen. RAM and output are looked at and stay. Refused, nothing lent is changed, and the state is zeros.
-pub fn open(
-    revision: u64,
-    digest: [u64; 5],
-    cells: usize,
-    opcodes: &[u64],
-    arguments: &[u64],
-    public: &[u64],
-    secret: &[u64],
-    digests: &[u64],
-    op_stack: &mut [u64],
-    origins: &mut [u64],
-    destinations: &mut [u64],
-    addresses: &[u64],
-    values: &[u64],
-    output: &[u64],
-) -> Moved
-    ensures { Opens unpriced revision digest (code_in opcodes arguments public secret digests)
-        (opening_in op_stack origins destinations addresses values output)
-        cells result (opening_out op_stack origins destinations addresses values output) }
-{
-    let no_fees = [0u64; 1];
-    let mut no_prices = [0u64; 1];
-    checked(
-        false,
-        revision,
-        digest,
-        cells,
-        opcodes,
-        arguments,
-        public,
-        secret,
-        digests,
-        op_stack,
-        origins,
-        destinations,
-        addresses,
-        values,
-        output,
-        &no_fees,
-        &no_fees,
-        &no_fees,
-        &mut no_prices,
-    )
-}
-
-// With a fee table, which is looked at last of all and not kept.
-pub fn open_with_fees(
-    revision: u64,
-    digest: [u64; 5],
-    cells: usize,
-    opcodes: &[u64],
-    arguments: &[u64],
-    public: &[u64],
-    secret: &[u64],
-    digests: &[u64],
-    op_stack: &mut [u64],
-    origins: &mut [u64],
-    destinations: &mut [u64],
-    addresses: &[u64],
-    values: &[u64],
-    output: &[u64],
-    lowest: &[u64],
-    highest: &[u64],
-    fees: &[u64],
-) -> Moved
-    ensures { Opens (priced (fee_table lowest.now highest.now fees.now)) revision digest (code_in opcodes arguments public secret digests)
-        (opening_in op_stack origins destinations addresses values output)
-        cells result (opening_out op_stack origins destinations addresses values output) }
-{
-    let mut prices = [0u64; 128];
-    checked(
-        true,
-        revision,
-        digest,
-        cells,
-        opcodes,
-        arguments,
-        public,
-        secret,
-        digests,
-        op_stack,
-        origins,
-        destinations,
-        addresses,
-        values,
-        output,
-        lowest,
-        highest,
-        fees,
-        &mut prices,
-    )
 }

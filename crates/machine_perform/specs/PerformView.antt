@@ -1,7 +1,9 @@
 -- What the code of place D and of an effect's performance relies on and promises.
-use Rattle.std.specs.Prelude.{ℕ, zero, suc, ◌+◌, ◌-◌, ◌≤◌, min, ◌≡◌, Bool, true, false, List, [], length, take, get_or, set, eqb}
+use Rattle.std.specs.Prelude.{ℕ, zero, suc, ◌+◌, ◌-◌, ◌≤◌, min, ◌≡◌, Bool, true, false, List, [], length, take, get_or, set, eqb, Result}
 use Rattle.tip5.specs.declared.sponge.Sponge.{Sponge}
 use Rattle.machine.specs.declared.state.VMState.{VMState}
+use Rattle.machine.specs.declared.refusal.PlaceD.{PlaceD}
+use Rattle.machine.specs.Refusal.{found_d}
 use Rattle.machine_effects.specs.declared.effect.Effect.{Effect as Arrays}
 use Rattle.choices.specs.Choice.{cond}
 use Rattle.machine.specs.Ram.{Cells, cells, has}
@@ -54,9 +56,19 @@ pub record Fit (s : VMState) (e : Arrays) (m : Memory) : Type 0 where
   pub output_few : length m.output ≤ longest
   pub accesses : e.reads + e.writes ≤ 10
 
+-- as much of it as place D's sums and search need
+pub record Sums (s : VMState) (e : Arrays) (stack origins addresses output : List ℕ) : Type 0 where
+  pub pops : e.pops ≤ s.depth
+  pub depth : s.depth ≤ longest
+  pub jumps : s.jumps ≤ longest
+  pub ordered : Ordered addresses s.cells
+  pub cells_few : length addresses ≤ longest
+  pub outputs : s.outputs ≤ longest
+  pub accesses : e.reads + e.writes ≤ 10
+
 -- the number, whatever the program and the inputs are
-pub record Limited (s : VMState) (e : Arrays) (m : Memory) (r : ℕ) : Type 0 where
-  pub is : (c : Code) → r ≡ limits_of (machine s c m) (effect_of e)
+pub record Limited (s : VMState) (e : Arrays) (m : Memory) (r : Result (Unit {0}) PlaceD) : Type 0 where
+  pub is : (c : Code) → found_d r ≡ limits_of (machine s c m) (effect_of e)
 
 -- ---- performance
 

@@ -1,11 +1,13 @@
-// Place D: whether there is room for an effect, as a number from 30 to 34, or 0. Numbers are chosen and not branched on.
-ghost use Rattle.std.specs.Prelude.{◌≡◌, ◌+◌, ◌≤◌, length};
+// Place D: whether there is room for an effect.
+ghost use Rattle.std.specs.Prelude.{◌≡◌, ◌+◌, ◌-◌, ◌≤◌, min, length};
 ghost use Rattle.machine_ram.specs.RamView.{Ordered};
-ghost use Rattle.choices.specs.Choice.{above_of};
+ghost use Rattle.choices.specs.Choice.{first_of, above_of};
 ghost use Rattle.machine.specs.Lent.{shared_at, shared_in};
-ghost use Rattle.machine_perform.specs.PerformView.{jumps_by, among_of, new_of, fresh_of, Fit, Limited};
+ghost use Rattle.machine.specs.Refusal.{number_d, found_d};
+ghost use Rattle.machine_perform.specs.PerformView.{jumps_by, among_of, new_of, fresh_of, Fit, Sums, Limited};
 
-use choices::numbers::{above, first, least};
+use choices::numbers::least;
+use machine::refusal::PlaceD;
 use machine::state::VMState;
 use machine_effects::effect::Effect;
 use machine_isa::op_stack::over;
@@ -97,19 +99,60 @@ fn fresh(addresses: &[u64], count: usize, written: [u64; 10], from: usize, n: us
     more
 }
 
-// 32 where the writes need more cells than there are. Addresses are looked for only where the table is nearly full.
-fn ram_limit(addresses: &[u64], count: usize, written: [u64; 10], from: usize, n: usize) -> u64
-    requires { (Ordered addresses.now count) × (from + n ≤ 10) × (length addresses.now ≤ 16777216) }
-    ensures { result ≡ above_of (count + fresh_of addresses.now count written from n) (length addresses.now) 32 }
+// No more than there is, or this error.
+#[tactic(auto, unfolding(choices::specs::Choice::above_of))]
+fn check_room(needed: usize, most: usize, error: PlaceD) -> Result<(), PlaceD>
+    ensures { found_d result ≡ above_of needed most (number_d error) }
 {
-    if count + n <= addresses.len() {
-        return 0;
-    }
-    let more = fresh(addresses, count, written, from, n);
-    above(count + more, addresses.len(), 32)
+    if most < needed { Err(error) } else { Ok(()) }
 }
 
-// Every number is found, and the first that applies is given. An array has no more words than it is long, whatever its count.
+// The cells that the writes need. Addresses are looked for only where the table is nearly full.
+fn check_cells(
+    addresses: &[u64],
+    count: usize,
+    written: [u64; 10],
+    from: usize,
+    n: usize,
+) -> Result<(), PlaceD>
+    requires { (Ordered addresses.now count) × (from + n ≤ 10) × (length addresses.now ≤ 16777216) }
+    ensures { found_d result ≡ above_of (count + fresh_of addresses.now count written from n) (length addresses.now) 32 }
+{
+    if count + n <= addresses.len() {
+        return Ok(());
+    }
+    let more = fresh(addresses, count, written, from, n);
+    check_room(count + more, addresses.len(), PlaceD::RamFull)
+}
+
+// The first that applies. An array has no more words than it is long, whatever its count.
+#[tactic(auto, unfolding(choices::specs::Choice::first_of))]
+fn first_full(
+    state: VMState,
+    effect: Effect,
+    op_stack: &[u64],
+    origins: &[u64],
+    addresses: &[u64],
+    output: &[u64],
+) -> Result<(), PlaceD>
+    requires { Sums state effect op_stack.now origins.now addresses.now output.now }
+    ensures { found_d result ≡ first_of (above_of (state.depth - effect.pops + min effect.count 16) (length op_stack.now) 30)
+        (first_of (above_of (jumps_by state.jumps effect.calls effect.returns) (length origins.now) 31)
+        (first_of (above_of (state.cells + fresh_of addresses.now state.cells effect.addresses effect.reads effect.writes) (length addresses.now) 32)
+        (first_of (above_of (state.outputs + min effect.outputs 5) (length output.now) 33)
+        (above_of state.clock 4294967294 34)))) }
+{
+    let depth = state.depth - effect.pops + least(effect.count, 16);
+    check_room(depth, op_stack.len(), PlaceD::OpStackFull)?;
+    let jumps = jumps_after(state.jumps, effect.calls, effect.returns);
+    check_room(jumps, origins.len(), PlaceD::JumpStackFull)?;
+    let written = effect.addresses;
+    check_cells(addresses, state.cells, written, effect.reads, effect.writes)?;
+    let outputs = state.outputs + least(effect.outputs, 5);
+    check_room(outputs, output.len(), PlaceD::OutputFull)?;
+    check_room(state.clock as usize, 4294967294, PlaceD::ClockAtEnd)
+}
+
 pub fn limits(
     state: VMState,
     effect: Effect,
@@ -119,17 +162,9 @@ pub fn limits(
     addresses: &[u64],
     values: &[u64],
     output: &[u64],
-) -> u64
+) -> Result<(), PlaceD>
     requires { Fit state effect (shared_at op_stack origins destinations addresses values output) }
     ensures { Limited state effect (shared_in op_stack origins destinations addresses values output) result }
 {
-    let depth = state.depth - effect.pops + least(effect.count, 16);
-    let outputs = state.outputs + least(effect.outputs, 5);
-    let jumps = jumps_after(state.jumps, effect.calls, effect.returns);
-    let written = effect.addresses;
-    let cells = ram_limit(addresses, state.cells, written, effect.reads, effect.writes);
-    let clock = above(state.clock as usize, 4294967294, 34);
-    let last = first(above(outputs, output.len(), 33), clock);
-    let middle = first(above(jumps, origins.len(), 31), first(cells, last));
-    first(above(depth, op_stack.len(), 30), middle)
+    first_full(state, effect, op_stack, origins, addresses, output)
 }

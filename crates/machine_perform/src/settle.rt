@@ -25,7 +25,7 @@ pub fn settle(
     requires { Settling state effect (memory_at op_stack origins destinations addresses values output) }
     ensures { Settled state effect pointer sponge (memory_in op_stack origins destinations addresses values output) result (memory_out op_stack origins destinations addresses values output) }
 {
-    let n = limits::limits(
+    let room = limits::limits(
         state,
         effect,
         op_stack,
@@ -35,27 +35,25 @@ pub fn settle(
         values,
         output,
     );
-    if n == 0 {
-        let next = perform::perform(
-            state,
-            effect,
-            pointer,
-            sponge,
-            op_stack,
-            origins,
-            destinations,
-            addresses,
-            values,
-            output,
-        );
-        Moved {
+    match room {
+        Ok(()) => Moved {
             answer: Answer::Took,
-            state: next,
-        }
-    } else {
-        Moved {
-            answer: Answer::Refused(InstructionError::Numbered(n)),
+            state: perform::perform(
+                state,
+                effect,
+                pointer,
+                sponge,
+                op_stack,
+                origins,
+                destinations,
+                addresses,
+                values,
+                output,
+            ),
+        },
+        Err(error) => Moved {
+            answer: Answer::Refused(InstructionError::NoRoom(error)),
             state: state,
-        }
+        },
     }
 }

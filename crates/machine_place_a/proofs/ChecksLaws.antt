@@ -2,43 +2,28 @@
 use mathlib.Core.Path.{◌≡◌, refl, sym, ap, ◌∙◌}
 use mathlib.Core.Bool.{Bool, true, false}
 use mathlib.Core.List.{List, []}
-use Prim.Native.Nat.{ℕ, zero, suc, ◌+◌, ◌-◌, ◌≤◌, ◌<◌}
+use Prim.Native.Nat.{ℕ, zero, suc, ◌+◌, ◌-◌, ◌≤◌, ◌<◌, min}
 use native.Mathlib.Numerals.{add-one}
 use native.Mathlib.Omega.{arith}
-use borrow.Author.Tests.{eqb-true, eqb-false}
-use lib.ListN.{length, get_or}
-use lib.Dec.{eqb}
+use borrow.Author.Tests.{eqb-true, eqb-false, ltb-true, ltb-false}
+use lib.ListN.{length, get_or, take}
+use lib.Seq.{get_or-take, length-take-le}
+use lib.Dec.{eqb, ltb}
+use Rattle.std.specs.Prelude.{Result, Ok, Err, IsErrAnd}
+use Rattle.std.specs.Result.{result_and}
+use Rattle.machine.specs.Ram.{fall_of, falls_of}
+use Rattle.machine.specs.declared.refusal.PlaceA.{PlaceA}
+use Rattle.machine.specs.declared.refusal.PlaceA.TheVariants as A
+use Rattle.machine.specs.Refusal.{number_a, found_a}
 use Rattle.field.specs.Base.{p}
 use Rattle.choices.specs.Choice.{first_of, above_of}
 use Rattle.machine.specs.Words.{word_of2, words_of, zeros_from}
 use Rattle.machine.specs.Instruction.{Decoded, known, unknown, known_in, decode}
 use Rattle.machine.specs.Machine.{Code, Memory, code}
 use Rattle.machine.specs.PlaceA.{code1, memory1, unknown3, argument4, opcodes3, arguments4, code34}
+use Rattle.machine.proofs.Refused.{number_a_some}
 use Rattle.choices.proofs.Choice.{first_zero, first-left, first-nil, above-not, above-is, differ_nil}
 use Rattle.machine.proofs.Words.{word_fine, word_not}
-
--- ---- a check that stops at the first number
-
-pub first-stop : (a b n : ℕ) → n ≡ a → 0 < n → n ≡ first_of a b
-first-stop a b n e l = e ∙ sym (first-left a b (λ z. omega (arith, e)))
-
-pub first_then : (a b n r : ℕ) → n ≡ a → n ≤ 0 → r ≡ b → r ≡ first_of a b
-first_then a b n r e l h = h ∙ sym (first_zero a b (omega (arith, e)))
-
-pub first-both : (a b c d n : ℕ) → n ≡ first_of c d → c ≡ a → d ≡ b → n ≡ first_of a b
-first-both a b c d n e h k = rw (h, k) at e
-
--- where all lengths are right, there are as many arguments as opcodes
-pub slots-paired : (c : Code) (m : Memory) (n : ℕ) → n ≡ first_of (code1 c) (memory1 m) → n ≤ 0 → length c.opcodes ≡ length c.arguments
-unfolding code1
-slots-paired c m n e l =
-    let z : first_of (code1 c) (memory1 m) ≡ 0 = omega (arith, e) in
-    let a = first-nil _ _ (first-nil _ _ z).0 in
-    let a2 = first-nil _ _ a.1 in
-    let a3 = first-nil _ _ a2.1 in
-    let a4 = first-nil _ _ a3.1 in
-    let a5 = first-nil _ _ a4.1 in
-    differ_nil _ _ 1 (omega arith) (first-nil _ _ a5.1).0
 
 -- ---- loops
 
@@ -70,16 +55,24 @@ words_turn : (s : List ℕ) (n : ℕ) → words_of s (suc n) ≡ first_of (words
 unfolding words_of
 words_turn s n = refl
 
-pub words_more : (s : List ℕ) (i : ℕ) → words_of s i ≡ 0 → get_or s i 0 < p → words_of s (i + 1) ≡ 0
-words_more s i h l = scan_more (words_of s) _ (words_turn s) i h (word_fine (get_or s i 0) l)
+pub words_more : (s : List ℕ) (i : ℕ) → words_of s i ≡ 0 → 0 ≡ word_of2 (get_or s i 0) → words_of s (i + 1) ≡ 0
+words_more s i h k = scan_more (words_of s) _ (words_turn s) i h (sym k)
 
-pub words-stop : (s : List ℕ) (i n : ℕ) → i < n → words_of s i ≡ 0 → p ≤ get_or s i 0 → words_of s n ≡ 2
-words-stop s i n m h l = scan_stop (words_of s) _ (words_turn s) i n 2 m (omega arith) h (word_not (get_or s i 0) l)
+-- the words of the first so many
+pub words_take : (s : List ℕ) (m n : ℕ) → n ≤ m → words_of (take m s) n ≡ words_of s n
+unfolding words_of
+words_take s m zero l = refl
+words_take s m (suc n) l = rw (words_take s m n (omega arith), get_or-take m s n 0 (omega arith)) refl
 
-pub words_end : (s : List ℕ) (i n : ℕ) → i ≤ n → n ≤ i → words_of s i ≡ 0 → 0 ≡ words_of s n
-words_end s i n l m h =
-    let e : n ≡ i = omega arith in
-    rw e (sym h)
+pub words_used : (s : List ℕ) (n r : ℕ) → r ≡ min (length s) n → words_of (take r s) (length (take r s)) ≡ words_of s (min n (length s))
+words_used s n r e =
+    let l : length (take r s) ≡ r = length-take-le r s (omega arith) in
+    let k : r ≡ min n (length s) = omega arith in
+    rw (l, words_take s r r (omega arith), k) refl
+
+-- a word that is found
+pub words_found : (s : List ℕ) (i n k : ℕ) → i < n → words_of s i ≡ 0 → k ≡ word_of2 (get_or s i 0) → 0 < k → k ≡ words_of s n
+words_found s i n k m h e l = sym (scan_stop (words_of s) _ (words_turn s) i n k m l h (sym e))
 
 -- ---- unused words
 
@@ -100,41 +93,60 @@ pub zeros_stop : (s : List ℕ) (n i : ℕ) → n ≤ i → i < length s → zer
 zeros_stop s n i l m h k =
     scan_stop (zeros_from s n) _ (zeros_turn s n) (i - n) (length s - n) 5 (omega arith) (omega arith) h (rw (at_place n i l) (above-is (get_or s i 0) 0 5 k))
 
-pub zeros_end : (s : List ℕ) (n i : ℕ) → i - n ≤ length s - n → length s ≤ i → zeros_from s n (i - n) ≡ 0 → 0 ≡ zeros_from s n (length s - n)
-zeros_end s n i l m h =
-    let e : length s - n ≡ i - n = omega arith in
-    rw e (sym h)
+-- nothing is left, or nothing was to be looked at
+pub zeros_end : (s : List ℕ) (n i : ℕ) → (n ≤ length s → i ≤ length s) → length s ≤ i → zeros_from s n (i - n) ≡ 0 → 0 ≡ zeros_from s n (length s - n)
+unfolding zeros_from
+zeros_end s n i m l h = go (ltb n (length s)) refl
+  where
+    go : (b : Bool) → ltb n (length s) ≡ b → 0 ≡ zeros_from s n (length s - n)
+    go true e =
+        let k : i ≤ length s = m (omega (arith, ltb-true n (length s) e)) in
+        let j : length s ≡ i = omega arith in
+        rw j (sym h)
+    go false e =
+        let k : length s - n ≡ 0 = omega (arith, ltb-false n (length s) e) in
+        rw k refl
 
 -- ---- slots
-
-known-fine : (d : Decoded) → known_in d ≡ true → unknown3 d ≡ 0
-known-fine (known r) e = refl
-known-fine unknown e = let z : ◌≡◌ {A = ℕ} 0 1 = cc in omega arith
-
-known-not : (d : Decoded) → known_in d ≡ false → unknown3 d ≡ 3
-known-not (known r) e = let z : ◌≡◌ {A = ℕ} 0 1 = cc in omega arith
-known-not unknown e = refl
 
 opcodes_turn : (s : List ℕ) (n : ℕ) → opcodes3 s (suc n) ≡ first_of (opcodes3 s n) (unknown3 (decode (get_or s n 0)))
 unfolding opcodes3
 opcodes_turn s n = refl
 
-pub opcodes-more : (s : List ℕ) (i : ℕ) → opcodes3 s i ≡ 0 → known_in (decode (get_or s i 0)) ≡ true → opcodes3 s (i + 1) ≡ 0
-opcodes-more s i h k = scan_more (opcodes3 s) _ (opcodes_turn s) i h (known-fine (decode (get_or s i 0)) k)
+pub opcodes_more : (s : List ℕ) (i : ℕ) → opcodes3 s i ≡ 0 → 0 ≡ unknown3 (decode (get_or s i 0)) → opcodes3 s (i + 1) ≡ 0
+opcodes_more s i h k = scan_more (opcodes3 s) _ (opcodes_turn s) i h (sym k)
 
-pub arguments_more : (s a : List ℕ) (i f g : ℕ) → f ≡ arguments4 s a i → g ≡ first_of f (argument4 (decode (get_or s i 0)) (get_or a i 0)) → g ≡ arguments4 s a (i + 1)
+found_and : (r q : Result (Unit {0}) PlaceA) → found_a (result_and r q) ≡ first_of (found_a r) (found_a q)
+unfolding first_of
+found_and (Ok v) q = refl
+found_and (Err e) q = sym (first-left (number_a e) (found_a q) (λ z. omega (arith, number_a_some e)))
+
+pub arguments_more : (s a : List ℕ) (i : ℕ) (r q t : Result (Unit {0}) PlaceA) → found_a r ≡ arguments4 s a i → found_a q ≡ argument4 (decode (get_or s i 0)) (get_or a i 0) → t ≡ result_and r q → found_a t ≡ arguments4 s a (i + 1)
 unfolding arguments4
-arguments_more s a i f g h k = rw (add-one i) (k ∙ ap (λ z. first_of z (argument4 (decode (get_or s i 0)) (get_or a i 0))) h)
+arguments_more s a i r q t h k e = rw (e, add-one i, ← h, ← k) (found_and r q)
 
-pub slots-stop : (s a : List ℕ) (i : ℕ) → i < length s → opcodes3 s i ≡ 0 → known_in (decode (get_or s i 0)) ≡ false → 3 ≡ code34 (code s a [] [] [])
+pub slots_found : (c : Code) (i k : ℕ) → i < length c.opcodes → opcodes3 c.opcodes i ≡ 0 → k ≡ unknown3 (decode (get_or c.opcodes i 0)) → 0 < k → k ≡ code34 c
 unfolding code34
-slots-stop s a i l h k =
-    let e : opcodes3 s (length s) ≡ 3 = scan_stop (opcodes3 s) _ (opcodes_turn s) i (length s) 3 l (omega arith) h (known-not (decode (get_or s i 0)) k) in
-    sym (first-left _ _ (λ z. omega (arith, e)) ∙ e)
+slots_found c i k l h e z =
+    let w : opcodes3 c.opcodes (length c.opcodes) ≡ k = scan_stop (opcodes3 c.opcodes) _ (opcodes_turn c.opcodes) i (length c.opcodes) k l z h (sym e) in
+    sym (first-left _ _ (λ y. omega (arith, w)) ∙ w)
 
-pub slots_end : (s a : List ℕ) (i f : ℕ) → i ≤ length s → length s ≤ i → opcodes3 s i ≡ 0 → f ≡ arguments4 s a i → f ≡ code34 (code s a [] [] [])
+pub slots_end : (c : Code) (i f : ℕ) → i ≤ length c.opcodes → length c.opcodes ≤ i → opcodes3 c.opcodes i ≡ 0 → f ≡ arguments4 c.opcodes c.arguments i → f ≡ code34 c
 unfolding code34
-slots_end s a i f l m h k =
-    let e : i ≡ length s = omega arith in
-    let z : opcodes3 s (length s) ≡ 0 = rw (← e) h in
+slots_end c i f l m h k =
+    let e : i ≡ length c.opcodes = omega arith in
+    let z : opcodes3 c.opcodes (length c.opcodes) ≡ 0 = rw (← e) h in
     k ∙ rw e (sym (first_zero _ _ z))
+
+-- ---- neighbours
+
+-- falls_of gives no other number
+pub falls_five : (s : List ℕ) (n : ℕ) → (falls_of s n ≡ 0 → ⊥) → 5 ≡ falls_of s n
+unfolding falls_of fall_of first_of
+falls_five s zero h = absurd (h refl)
+falls_five s (suc n) h = go (falls_five s n) (eqb (falls_of s n) 0) refl (ltb (get_or s n 0) (get_or s (suc n) 0)) refl
+  where
+    go : ((falls_of s n ≡ 0 → ⊥) → 5 ≡ falls_of s n) → (a : Bool) → eqb (falls_of s n) 0 ≡ a → (b : Bool) → ltb (get_or s n 0) (get_or s (suc n) 0) ≡ b → 5 ≡ falls_of s (suc n)
+    go ih true e true k = absurd (h (rw (e, k) refl))
+    go ih true e false k = rw (e, k) refl
+    go ih false e b k = rw e (ih (eqb-false (falls_of s n) 0 e))

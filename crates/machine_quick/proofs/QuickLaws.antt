@@ -110,9 +110,9 @@ module _ {s : VMState} {o a u x w from to c v : List ℕ} where
         allowed = argument-at o a (length o) s.pointer h.inside m.code.allowed;
       }
 
-  module _ (h : Walking s o a u x w from to c v) {n : ℕ} (is : n ≡ place_b s o a) (z : n ≤ 0) where
+  module _ (h : Walking s o a u x w from to c v) (is : 0 ≡ place_b s o a) where
     pub quick_inside : s.pointer < length o
-    quick_inside = (b_passes (machine s (code o a u x h.digests) (memory w from to c v h.output)) h.sound.deep is (omega arith)).0
+    quick_inside = (b_passes (machine s (code o a u x h.digests) (memory w from to c v h.output)) h.sound.deep is refl).0
 
     pub quick_standing : StandingQuick s o a u x w from to c v
     quick_standing = record { digests = h.digests; output = h.output; sound = h.sound; inside = quick_inside }
@@ -122,7 +122,7 @@ module _ {s : VMState} {o a u x w from to c v : List ℕ} where
           decide_of (machine s (code o a u x digests) (memory w from to c v output)) ≡ acts (effect_of d.effect)
       unfolding decision_of
       quick_decides digests output sound =
-          (b_passes (machine s (code o a u x digests) (memory w from to c v output)) sound.deep is (omega arith)).1
+          (b_passes (machine s (code o a u x digests) (memory w from to c v output)) sound.deep is refl).1
           ∙ sym ((k.is t).is digests output)
           ∙ ap (λ (y : Verdict). verdict_of y (effect_of d.effect)) t
 

@@ -7,7 +7,7 @@ ghost use Rattle.machine_decide.specs.DecideView.{handed};
 ghost use Rattle.machine_quick.specs.QuickView.{not_quick, Usable, ActedQuick, StandingQuick, DecidedQuick, Quiet, Changing, Changed, Walking, Quicked};
 
 use choices::numbers::least;
-use machine::refusal::InstructionError;
+use machine::refusal::{InstructionError, PlaceA};
 use machine::state::VMState;
 use machine_arithmetic::arithmetic;
 use machine_decide::decide::last;
@@ -73,7 +73,7 @@ fn act(
         65 => arithmetic::addi(w, argument),
         50 => arithmetic::mul(w),
         58 => arithmetic::eq(w),
-        _ => effect::refuse(InstructionError::Numbered(3)),
+        _ => effect::refuse(InstructionError::Handed(PlaceA::InvalidOpcode)),
     }
 }
 
@@ -194,9 +194,9 @@ pub fn quick(
     requires { Walking state opcodes.now arguments.now public.now secret.now op_stack.old origins.now destinations.now addresses.now values.now }
     ensures { Quicked state opcodes.now arguments.now public.now secret.now op_stack.old origins.now destinations.now addresses.now values.now result op_stack.new }
 {
-    let n = place_b(state, opcodes, arguments);
-    if 0 < n {
-        return none();
+    match place_b(state, opcodes, arguments) {
+        Err(_) => return none(),
+        Ok(()) => {}
     }
     let opcode = opcodes[state.pointer as usize];
     let decided = plain(

@@ -10,6 +10,9 @@ use lib.Dec.{eqb}
 use Rattle.tip5.specs.declared.sponge.Sponge.{Sponge}
 use Rattle.machine.specs.declared.state.VMState.{VMState}
 use Rattle.machine.specs.declared.refusal.InstructionError.{InstructionError}
+use Rattle.machine.specs.declared.refusal.InstructionError.TheVariants.{Before}
+use Rattle.machine.specs.declared.refusal.PlaceB.{PlaceB}
+use Rattle.machine.proofs.Refused.{number_b_some}
 use Rattle.machine_effects.specs.declared.effect.Effect.{Effect as Arrays}
 use Rattle.machine_effects.specs.declared.effect.Decided.{Decided}
 use Rattle.machine_hashing.specs.declared.hashing.Hashed.{Hashed}
@@ -17,7 +20,7 @@ use Rattle.machine_effects.specs.declared.effect.Verdict.{Verdict}
 use Rattle.machine_effects.specs.declared.effect.Verdict.TheVariants.{Acts, Refuses, Drops}
 use Rattle.choices.specs.Choice.{cond}
 use Rattle.machine.specs.Lengths.{most_bytes}
-use Rattle.machine.specs.Refusal.{Refusal, refusal_of, plainly}
+use Rattle.machine.specs.Refusal.{Refusal, number_b, refusal_of, plainly}
 use Rattle.machine.specs.Machine.{Memory, memory, Machine, machine}
 use Rattle.machine.specs.Instruction.{decode, size_of}
 use Rattle.machine.specs.Effect.{Call, onward, to, SpongeChange, keeps, becomes, Effect, acts}
@@ -260,12 +263,12 @@ hash-way {t} {m} z h e k l =
 
 -- ---- place B
 
-module _ {t : Bool} {m : Machine} {b : List ℕ} (h : Standing t m b) {n : ℕ} (is : n ≡ place_b m.state m.code.opcodes m.code.arguments) where
-  pub refused_before : {x : InstructionError} → 0 < n → refusal_of x ≡ plainly n → Advanced t m b (record { answer = Refused x; state = m.state; bytes = 0 }) m.memory b
-  unfolding settled
-  refused_before {x} z e =
-      let d = b_turns m h.sound.deep is z in
-      record { gives = rw d (record { answer = ap turned e; left = refl }); bytes = rw d; buffer = rw d }
+module _ {t : Bool} {m : Machine} {b : List ℕ} (h : Standing t m b) where
+  pub refused_before : {e : PlaceB} → number_b e ≡ place_b m.state m.code.opcodes m.code.arguments → Advanced t m b (record { answer = Refused (Before e); state = m.state; bytes = 0 }) m.memory b
+  unfolding settled refusal_of
+  refused_before {e} is =
+      let d = b_turns m h.sound.deep is (number_b_some e) in
+      record { gives = rw d (record { answer = refl; left = refl }); bytes = rw d; buffer = rw d }
 
-  pub stands_on : {w : Bool} → n ≤ 0 → hashes (opcode_of m) ≡ w → StandingOn w t m b
-  stands_on z e = let k = b_passes m h.sound.deep is (omega arith) in record { standing = h; inside = k.0; decides = k.1; way = e }
+  pub stands_on : {w : Bool} → 0 ≡ place_b m.state m.code.opcodes m.code.arguments → hashes (opcode_of m) ≡ w → StandingOn w t m b
+  stands_on is e = let k = b_passes m h.sound.deep is refl in record { standing = h; inside = k.0; decides = k.1; way = e }

@@ -238,13 +238,15 @@ pub fn advance(
     requires { Standing recording (machine state (code_at opcodes arguments public secret digests) (memory_at op_stack origins destinations addresses values output)) b.old }
     ensures { Advanced recording (machine state (code_in opcodes arguments public secret digests) (memory_in op_stack origins destinations addresses values output)) b.old result (memory_out op_stack origins destinations addresses values output) b.new }
 {
-    let n = place_b::place_b(state, opcodes, arguments);
-    if 0 < n {
-        return Stepped {
-            answer: Answer::Refused(InstructionError::Numbered(n)),
-            state: state,
-            bytes: 0,
-        };
+    match place_b::place_b(state, opcodes, arguments) {
+        Err(error) => {
+            return Stepped {
+                answer: Answer::Refused(InstructionError::Before(error)),
+                state: state,
+                bytes: 0,
+            };
+        }
+        Ok(()) => {}
     }
     if decide::hashes(opcodes[state.pointer as usize]) {
         advance_hashing(

@@ -5,18 +5,21 @@ use mathlib.Core.List.{List, []}
 use Prim.Native.Nat.{ℕ, ◌≤◌, ◌<◌}
 use native.Mathlib.Omega.{arith}
 use lib.ListN.{length}
-use Rattle.machine.specs.declared.refusal.InstructionError.TheVariants as I
+use Rattle.std.specs.Prelude.{Ok, Err, Option, Some, None, is_some}
+use Rattle.machine.specs.declared.state.VMState.{VMState}
+use Rattle.machine_fees.specs.declared.fee_table.LentFees.{LentFees}
+use Rattle.machine.specs.declared.refusal.InstructionError.{InstructionError}
 use Rattle.choices.specs.Choice.{first_of, above_of}
 use Rattle.machine.specs.Lengths.{longest}
-use Rattle.machine.specs.Refusal.{Refusal}
+use Rattle.machine.specs.Refusal.{Refusal, refusal_of}
 use Rattle.machine.specs.Instruction.{known_in, decode}
-use Rattle.machine.specs.Machine.{Memory, Machine}
+use Rattle.machine.specs.Machine.{Code, Memory, Machine, machine}
 use Rattle.machine.specs.Decide.{decide_of}
 use Rattle.machine.specs.Records.{log_bytes}
 use Rattle.machine.specs.PlaceA.{machine_a}
-use Rattle.machine.specs.FeeTable.{FeeTable, Fees, unpriced, checked}
+use Rattle.machine.specs.FeeTable.{Fees, unpriced, priced, checked}
 use Rattle.machine.specs.Fee.{price_in, fee_from, fee_of}
-use Rattle.machine.specs.Path.{refused, Path, stays, Space, path_by, log_from}
+use Rattle.machine.specs.Path.{refused, Path, stays, path_by, log_from}
 use Rattle.machine.specs.Run.{long1, call_a, call_by}
 use Rattle.machine.specs.ProcessorRow.{rows_from}
 use Rattle.machine.specs.Sound.{Sound}
@@ -24,33 +27,32 @@ use Rattle.choices.proofs.Choice.{first-nil, above-nil, above-not}
 use Rattle.machine.proofs.FeeTable.{checked-number}
 use Rattle.machine.proofs.PlaceA.{machine-sound}
 use Rattle.machine.proofs.Path.{goes, path-row}
-use Rattle.machine.proofs.Refused.{checked-is}
+use Rattle.machine.proofs.Refused.{refusal_some}
 use Rattle.machine.proofs.Fee.{fee_alike}
 use Rattle.machine.proofs.Run.{call-is, call-refuses}
 use Rattle.machine_log.proofs.Logged.{logged_none}
-use Rattle.machine_fees.specs.declared.fee_table.Fault.{Fault}
-use Rattle.machine_fees.specs.FeeView.{refusal_in, Priceable, PricesOf, fees_in, FeesChecked}
+use Rattle.machine_fees.specs.FeeView.{fees_of, Pricing as FeePricing, FeesChecked}
+use Rattle.machine_fees.proofs.FeeLaws.{fees_fine}
 use Rattle.machine_steps.specs.declared.answer.Ending.TheVariants as E
 use Rattle.machine_steps.specs.declared.answer.Ran.{Ran}
 use Rattle.machine_steps.specs.RanView.{RanAs, RanOn}
 use Rattle.machine_steps.specs.StepsView.{price_by, Pricing, left_of, space_of, log_of, rows_of, StandingIn, StepsOn}
-use Rattle.machine_vm.specs.RunView.{Lendable, Calls, Runs}
+use Rattle.machine_vm.specs.RunView.{Unasked, Calls, Runs}
 
--- refused with a number and the word that it carries
-abbrev pub turned_down : Machine → Fault → Ran
-turned_down m v = record { count = 0; ending = E.Refused (I.Checked v.number v.opcode); state = m.state; bytes = 0; fee = 0 }
+abbrev pub turned_down : Machine → InstructionError → Ran
+turned_down m e = record { count = 0; ending = E.Refused e; state = m.state; bytes = 0; fee = 0 }
 
 -- a refused call writes neither records nor rows, and costs nothing
-turned_on : (t u : Bool) (f : Fees) (m : Machine) (v : Fault) (b w : List ℕ) →
-    let p = stays (refused (refusal_in v)) m in RanOn p (fee_of f m p.machines) (log_of t m p.machines) (rows_of u m p.machines) m.code b w (turned_down m v) m.memory b w
+turned_on : (t u : Bool) (f : Fees) (m : Machine) (e : InstructionError) (b w : List ℕ) →
+    let p = stays (refused (refusal_of e)) m in RanOn p (fee_of f m p.machines) (log_of t m p.machines) (rows_of u m p.machines) m.code b w (turned_down m e) m.memory b w
 unfolding log_from log_bytes fee_from rows_from
-turned_on t u f m v b w = go t u
+turned_on t u f m e b w = go t u
   where
-    ran : (t : Bool) → let p = stays (refused (refusal_in v)) m in RanAs p (fee_of f m p.machines) (log_of t m p.machines) m.code b (turned_down m v) m.memory b
-    ran true = record { steps = refl; ending = ap refused (checked-is v.number v.opcode); left = refl; fee = refl; bytes = refl; buffer = logged_none b 0 }
-    ran false = record { steps = refl; ending = ap refused (checked-is v.number v.opcode); left = refl; fee = refl; bytes = refl; buffer = logged_none b 0 }
+    ran : (t : Bool) → let p = stays (refused (refusal_of e)) m in RanAs p (fee_of f m p.machines) (log_of t m p.machines) m.code b (turned_down m e) m.memory b
+    ran true = record { steps = refl; ending = refl; left = refl; fee = refl; bytes = refl; buffer = logged_none b 0 }
+    ran false = record { steps = refl; ending = refl; left = refl; fee = refl; bytes = refl; buffer = logged_none b 0 }
 
-    go : (t u : Bool) → let p = stays (refused (refusal_in v)) m in RanOn p (fee_of f m p.machines) (log_of t m p.machines) (rows_of u m p.machines) m.code b w (turned_down m v) m.memory b w
+    go : (t u : Bool) → let p = stays (refused (refusal_of e)) m in RanOn p (fee_of f m p.machines) (log_of t m p.machines) (rows_of u m p.machines) m.code b w (turned_down m e) m.memory b w
     go t true = record { ran = ran t; table = logged_none w 0 }
     go t false = record { ran = ran t; table = logged_none w 0 }
 
@@ -64,70 +66,69 @@ long_nil : (t : Bool) (n : ℕ) → (t ≡ false → n ≤ longest) → long1 (l
 long_nil true n h k = above-nil n longest 1 (omega arith) k
 long_nil false n h k = h refl
 
-pub call-number : {t u p : Bool} (m : Machine) {b w ps : List ℕ} {x y s k n : ℕ} → Lendable t u p b w ps → x ≡ above_of (length w) longest 1 → y ≡ above_of (length b) longest 1 → k ≡ machine_a m → s ≡ first_of y k → n ≡ first_of x s →
-    n ≡ call_a (space_of t u (length b) (length w)) m
+-- k is the memory as it is looked at
+pub call_number : {t u : Bool} (s : VMState) (c : Code) {m k : Memory} {b w : List ℕ} {n : ℕ} → Unasked t u b w → k ≡ m →
+    n ≡ first_of (above_of (length w) longest 1) (first_of (above_of (length b) longest 1) (machine_a (machine s c k))) → n ≡ call_a (space_of t u (length b) (length w)) (machine s c m)
 unfolding call_a
-call-number {t} {u} m {b} {w} l e f g h i = i ∙ rw (h, e, f, g, long_is u (length w) l.table, long_is t (length b) l.log)
+call_number {t} {u} s c {m} {k} {b} {w} l h e = e ∙ rw (h, long_is u (length w) l.table, long_is t (length b) l.log)
 
 -- ---- the answers
 
-module _ {t u p : Bool} {table : FeeTable} (budget : ℕ) (m : Machine) {b w ps qs : List ℕ} {n : ℕ} {v : Fault} (l : Lendable t u p b w ps) (e : n ≡ call_a (space_of t u (length b) (length w)) m) (h : FeesChecked p table n v qs) where
-  abbrev lent : Space
-  lent = space_of t u (length b) (length w)
+-- whether there is a table
+abbrev pub is_priced : Fees → Bool
+is_priced unpriced = false
+is_priced (priced t) = true
 
-  wrong-is : refusal_in v ≡ checked (fees_in p table) (call_a lent m)
-  wrong-is = h.fault ∙ ap (checked (fees_in p table)) e
+pub priced_is : (o : Option LentFees) → is_some o ≡ is_priced (fees_of o)
+priced_is None = refl
+priced_is (Some t) = refl
 
-  module _ (z : v.number ≡ 0) where
-    right : (checked (fees_in p table) (call_a lent m)).number ≡ 0
-    right = ap (λ (r : Refusal). r.number) (sym wrong-is) ∙ z
+module _ {t u : Bool} (f : Fees) (budget : ℕ) (m : Machine) {b w qs : List ℕ} {n : ℕ} (l : Unasked t u b w) (e : n ≡ call_a (space_of t u (length b) (length w)) m) where
+  module _ {v : Unit {0}} (h : FeesChecked f n (Ok v) qs) where
+    right : (checked f (call_a (space_of t u (length b) (length w)) m)).number ≡ 0
+    right = ap (λ (x : ℕ). (checked f x).number) (sym e) ∙ fees_fine f n (Ok v) qs h refl
 
     fine : (long1 (left_of u (length w)) ≡ 0) × (long1 (left_of t (length b)) ≡ 0) × (machine_a m ≡ 0)
     unfolding call_a
     fine =
-        let k = first-nil (long1 (left_of u (length w))) (first_of (long1 (left_of t (length b))) (machine_a m)) (checked-number (fees_in p table) (call_a lent m) right) in
+        let k = first-nil (long1 (left_of u (length w))) (first_of (long1 (left_of t (length b))) (machine_a m)) (checked-number f (call_a (space_of t u (length b) (length w)) m) right) in
         let i = first-nil (long1 (left_of t (length b))) (machine_a m) k.1 in
         (k.0, i.0, i.1)
 
-    prices_there : (x : Bool) → p ≡ x → Pricing x qs
-    prices_there true k = let g = (h.prices z k).priceable in record { all = λ _. omega (arith, g.all); narrow = g.narrow }
-    prices_there false k = record { all = λ y. absurd (true≢false (sym y)); narrow = λ o. omega arith }
-
     -- the sponge has sixteen words and the clock 32 bits by their types
-    pub call-stands : length m.state.sponge.words ≡ 16 → m.state.clock < 4294967296 → StandingIn p m b w qs
-    call-stands sixteen clock =
+    pub call_stands : length m.state.sponge.words ≡ 16 → m.state.clock < 4294967296 → StandingIn (is_priced f) m b w qs
+    call_stands sixteen clock =
         record {
           sound = machine-sound m sixteen clock fine.2;
           few = long_nil t (length b) l.log fine.1;
           few_rows = long_nil u (length w) l.table fine.0;
-          pricing = prices_there p refl;
+          pricing = prices_there f (h.prices refl);
         }
+      where
+        prices_there : (f : Fees) → FeePricing f qs → Pricing (is_priced f) qs
+        prices_there unpriced k = record { all = λ y. absurd (true≢false (sym y)); narrow = λ o. omega arith }
+        prices_there (priced a) k = record { all = λ _. omega (arith, k.priceable.all); narrow = k.priceable.narrow }
 
-    price_same : (x : Bool) → p ≡ x → (o : ℕ) → known_in (decode o) ≡ true → price_by x qs o ≡ price_in (fees_in x table) o
-    price_same true k o y = (h.prices z k).is o y
-    price_same false k o y = refl
+    price_same : (f : Fees) → FeePricing f qs → (o : ℕ) → known_in (decode o) ≡ true → price_by (is_priced f) qs o ≡ price_in f o
+    price_same unpriced k o y = refl
+    price_same (priced a) k o y = k.is o y
 
-    pub call-accepted : {b2 w2 : List ℕ} {r : Ran} {n2 : Memory} → Sound m → StepsOn t u p budget m b w qs r n2 b2 w2 → Calls t u (fees_in p table) budget m b w r n2 b2 w2
-    call-accepted {b2} {w2} {r} {n2} s g =
-        let x = path_by decide_of lent budget m in
-        let same : fee_from (price_by p qs) m x.machines ≡ fee_of (fees_in p table) m x.machines = fee_alike (price_by p qs) (price_in (fees_in p table)) (price_same p refl) (path-row decide_of (goes decide_of lent budget m)).chain s in
-        subst (λ (y : Path). RanOn y (fee_of (fees_in p table) m y.machines) (log_of t m y.machines) (rows_of u m y.machines) m.code b w r n2 b2 w2)
-        (sym (call-is decide_of (fees_in p table) lent budget m right))
+    pub call_accepted : {b2 w2 : List ℕ} {r : Ran} {n2 : Memory} → Sound m → StepsOn t u (is_priced f) budget m b w qs r n2 b2 w2 → Calls t u f budget m b w r n2 b2 w2
+    call_accepted {b2} {w2} {r} {n2} s g =
+        let x = path_by decide_of (space_of t u (length b) (length w)) budget m in
+        let same : fee_from (price_by (is_priced f) qs) m x.machines ≡ fee_of f m x.machines = fee_alike (price_by (is_priced f) qs) (price_in f) (price_same f (h.prices refl)) (path-row decide_of (goes decide_of (space_of t u (length b) (length w)) budget m)).chain s in
+        subst (λ (y : Path). RanOn y (fee_of f m y.machines) (log_of t m y.machines) (rows_of u m y.machines) m.code b w r n2 b2 w2)
+        (sym (call-is decide_of f (space_of t u (length b) (length w)) budget m right))
         (subst (λ (i : ℕ). RanOn x i (log_of t m x.machines) (rows_of u m x.machines) m.code b w r n2 b2 w2) same g)
 
-  pub call-turned : (v.number ≡ 0 → ⊥) → Calls t u (fees_in p table) budget m b w (turned_down m v) m.memory b w
-  call-turned z =
-      let k = call-refuses decide_of (fees_in p table) lent budget m (λ y. z (ap (λ (r : Refusal). r.number) wrong-is ∙ y)) in
-      subst (λ (y : Path). RanOn y (fee_of (fees_in p table) m y.machines) (log_of t m y.machines) (rows_of u m y.machines) m.code b w (turned_down m v) m.memory b w)
-      (ap (λ (r : Refusal). stays (refused r) m) wrong-is ∙ sym k)
-      (turned_on t u (fees_in p table) m v b w)
+  pub call_turned : {x : InstructionError} → FeesChecked f n (Err x) qs → Calls t u f budget m b w (turned_down m x) m.memory b w
+  call_turned {x} h =
+      let wrong : refusal_of x ≡ checked f (call_a (space_of t u (length b) (length w)) m) = h.fault ∙ ap (checked f) e in
+      let k = call-refuses decide_of f (space_of t u (length b) (length w)) budget m (λ y. omega (arith, refusal_some x, ap (λ (r : Refusal). r.number) wrong ∙ y)) in
+      subst (λ (y : Path). RanOn y (fee_of f m y.machines) (log_of t m y.machines) (rows_of u m y.machines) m.code b w (turned_down m x) m.memory b w)
+      (ap (λ (r : Refusal). stays (refused r) m) wrong ∙ sym k)
+      (turned_on t u f m x b w)
 
 -- run has neither log nor table
 pub runs_by : (f : Fees) (budget : ℕ) (m : Machine) (b w : List ℕ) {b2 w2 : List ℕ} {r : Ran} {n : Memory} → Calls false false f budget m b w r n b2 w2 → Runs f budget m r n
 runs_by f budget m b w h = record { steps = h.ran.steps; ending = h.ran.ending; left = h.ran.left; fee = h.ran.fee; bytes = h.ran.bytes; buffer = logged_none [] 0 }
-
--- ---- what is not asked for
-
--- slices of one word, and prices that are all 0
-pub unlent : {t u : Bool} (b w ps : List ℕ) → length b ≡ 1 → length w ≡ 1 → Lendable t u false b w ps
-unlent b w ps h k = record { log = λ _. omega (arith, h); table = λ _. omega (arith, k); prices = λ e. absurd (true≢false (sym e)) }

@@ -7,12 +7,14 @@ use native.Mathlib.Omega.{arith}
 use borrow.Author.Tests.{eq-eqb, eqb-true, eqb-false}
 use lib.ListN.{length}
 use lib.Dec.{eqb}
-use Rattle.machine.specs.declared.refusal.InstructionError.TheVariants as I
+use Rattle.std.specs.Prelude.{Ok, Err}
+use Rattle.machine.specs.declared.refusal.InstructionError.{InstructionError}
 use Rattle.choices.specs.Choice.{first_of, above_of}
-use Rattle.machine.specs.Refusal.{Refusal}
-use Rattle.machine.specs.Machine.{Memory, Machine}
+use Rattle.machine.specs.Refusal.{Refusal, refusal_of}
+use Rattle.machine.specs.declared.state.VMState.{VMState}
+use Rattle.machine.specs.Machine.{Code, Memory, Machine, machine}
 use Rattle.machine.specs.PlaceA.{longest, most_bytes, buffer1, machine_a, step_a}
-use Rattle.machine.specs.FeeTable.{FeeTable, priced, checked}
+use Rattle.machine.specs.FeeTable.{FeeTable, Fees, unpriced, priced, checked}
 use Rattle.machine.specs.Fee.{row_named}
 use Rattle.machine.specs.Decide.{opcode_of, decide_of}
 use Rattle.machine.specs.Apply.{Outcome, took, kept, lost}
@@ -20,10 +22,9 @@ use Rattle.machine.specs.Step.{outcome_by, step_by, step_of}
 use Rattle.choices.proofs.Choice.{first-nil, above-nil}
 use Rattle.machine.proofs.FeeTable.{table_lowest, table-highest, checked-number, checked-slices}
 use Rattle.machine.proofs.PlaceA.{machine-sound}
-use Rattle.machine.proofs.Refused.{checked-is, step-refuses}
-use Rattle.machine_fees.specs.declared.fee_table.Fault.{Fault}
-use Rattle.machine_fees.specs.FeeView.{refusal_in, fees_in, FeesChecked}
-use Rattle.machine_fees.proofs.FeeLaws.{fees-fine}
+use Rattle.machine.proofs.Refused.{refusal_some, step-refuses}
+use Rattle.machine_fees.specs.FeeView.{FeesChecked}
+use Rattle.machine_fees.proofs.FeeLaws.{fees_fine}
 use Rattle.machine_perform.specs.declared.answer.Answer.{Answer}
 use Rattle.machine_perform.specs.declared.answer.Answer.TheVariants.{Took, Refused}
 use Rattle.machine_perform.specs.declared.answer.Stepped.{Stepped}
@@ -31,31 +32,29 @@ use Rattle.machine_perform.specs.AnswerView.{did, turned, answer_in, answered_by
 use Rattle.machine_vm.specs.StepView.{Steps, taken_in, NamesRow}
 use Rattle.machine_step.specs.AdvanceView.{Standing, Advanced}
 
-pub step-number : (m : Machine) (b : List ℕ) {s k n : ℕ} → s ≡ first_of (above_of (length b) longest 1) (above_of (most_bytes m.state.revision) (length b) 1) → k ≡ machine_a m → n ≡ first_of s k → n ≡ step_a m b
-unfolding step_a buffer1
-step-number m b e f g = g ∙ rw (e, f)
+-- k is the memory as it is looked at
+pub step_number : (s : VMState) (c : Code) {m k : Memory} (b : List ℕ) {n : ℕ} → k ≡ m → n ≡ step_a (machine s c k) b → n ≡ step_a (machine s c m) b
+step_number s c b h e = e ∙ rw h refl
 
 -- where nothing is found wrong; the sponge has sixteen words and the clock 32 bits by their types
-pub stands : (m : Machine) (b : List ℕ) {p : Bool} {t : FeeTable} {n : ℕ} {v : Fault} {qs : List ℕ} → length m.state.sponge.words ≡ 16 → m.state.clock < 4294967296 → n ≡ step_a m b → FeesChecked p t n v qs → v.number ≡ 0 → Standing true m b
+pub stands : (f : Fees) (m : Machine) (b : List ℕ) {n : ℕ} {v : Unit {0}} {qs : List ℕ} → length m.state.sponge.words ≡ 16 → m.state.clock < 4294967296 → n ≡ step_a m b → FeesChecked f n (Ok v) qs → Standing true m b
 unfolding step_a buffer1
-stands m b {p} {t} {n} {v} {qs} sixteen clock e c z =
-    let k = first-nil _ (machine_a m) (sym e ∙ checked-number (fees_in p t) n (fees-fine p t n v qs c z)) in
+stands f m b {n} {v} {qs} sixteen clock e c =
+    let k = first-nil _ (machine_a m) (sym e ∙ checked-number f n (fees_fine f n (Ok v) qs c refl)) in
     record { sound = machine-sound m sixteen clock k.1; room = λ _. above-nil (most_bytes m.state.revision) (length b) 1 (omega arith) (first-nil _ (above_of (most_bytes m.state.revision) (length b) 1) k.0).1 }
 
-module _ (m : Machine) (b : List ℕ) {p : Bool} {t : FeeTable} {n : ℕ} {v : Fault} {qs : List ℕ} (e : n ≡ step_a m b) (c : FeesChecked p t n v qs) where
-  wrong-is : refusal_in v ≡ checked (fees_in p t) (step_a m b)
-  wrong-is = c.fault ∙ ap (checked (fees_in p t)) e
-
-  pub stepped : {r : Stepped} {n2 : Memory} {b2 : List ℕ} → v.number ≡ 0 → Advanced true m b r n2 b2 → Steps (fees_in p t) m b r n2 b2
+module _ (f : Fees) (m : Machine) (b : List ℕ) {n : ℕ} {qs : List ℕ} (e : n ≡ step_a m b) where
+  pub stepped : {v : Unit {0}} {r : Stepped} {n2 : Memory} {b2 : List ℕ} → FeesChecked f n (Ok v) qs → Advanced true m b r n2 b2 → Steps f m b r n2 b2
   unfolding step_by outcome_by
-  stepped z a =
-      let k = eq-eqb (checked (fees_in p t) (step_a m b)).number 0 (ap (λ (r : Refusal). r.number) (sym wrong-is) ∙ z) in
+  stepped {v} c a =
+      let k = eq-eqb (checked f (step_a m b)).number 0 (ap (λ (x : ℕ). (checked f x).number) (sym e) ∙ fees_fine f n (Ok v) qs c refl) in
       record { gives = rw k a.gives; bytes = rw k a.bytes; buffer = rw k a.buffer }
 
-  pub step-turned : (v.number ≡ 0 → ⊥) → Steps (fees_in p t) m b (record { answer = Refused (I.Checked v.number v.opcode); state = m.state; bytes = 0 }) m.memory b
-  step-turned z =
-      let k = step-refuses decide_of (fees_in p t) m b (λ y. z (ap (λ (r : Refusal). r.number) wrong-is ∙ y)) in
-      record { gives = rw k (record { answer = ap turned (checked-is v.number v.opcode ∙ wrong-is); left = refl }); bytes = rw k; buffer = rw k }
+  pub step_turned : {x : InstructionError} → FeesChecked f n (Err x) qs → Steps f m b (record { answer = Refused x; state = m.state; bytes = 0 }) m.memory b
+  step_turned {x} c =
+      let w : refusal_of x ≡ checked f (step_a m b) = c.fault ∙ ap (checked f) e in
+      let k = step-refuses decide_of f m b (λ y. omega (arith, refusal_some x, ap (λ (r : Refusal). r.number) w ∙ y)) in
+      record { gives = rw k (record { answer = ap turned w; left = refl }); bytes = rw k; buffer = rw k }
 
 -- ---- with a fee table
 
@@ -88,12 +87,18 @@ module _ {t : FeeTable} {m : Machine} {b b2 : List ℕ} {r : Stepped} {n : Memor
   pub names_row : {o x : ℕ} {y : Bool} → y ≡ taken_in r.answer → o ≡ opcode_of m → NamesRow y t.lowest t.highest o x → x ≡ row_named (priced t) m (step_of (priced t) m b).outcome
   names_row {o} {x} {y} e q h = go (step_of (priced t) m b).outcome refl
     where
-      unnamed : (w : Refusal) → answer_in r.answer ≡ turned w → x ≡ 0
-      unnamed w i = h.row t.lowest refl ∙ rw (e ∙ turned_untaken r.answer w i)
+      none_named : (w : Refusal) → answer_in r.answer ≡ turned w → x ≡ 0
+      none_named w i = h.row t.lowest refl ∙ rw (e ∙ turned_untaken r.answer w i)
 
       go : (z : Outcome) → (step_of (priced t) m b).outcome ≡ z → x ≡ row_named (priced t) m (step_of (priced t) m b).outcome
       go (took z) i =
           let d = took-taken r.answer (s.gives.answer ∙ ap answered_by i) in
           h.row t.fees (table_lowest t (checked-slices t (step_a m b) (taken-right d))) ∙ (rw (e ∙ d, q) (ap (row_named (priced t) m) (sym i)))
-      go (kept w) i = unnamed w (s.gives.answer ∙ ap answered_by i) ∙ ap (row_named (priced t) m) (sym i)
-      go (lost w z) i = unnamed w (s.gives.answer ∙ ap answered_by i) ∙ ap (row_named (priced t) m) (sym i)
+      go (kept w) i = none_named w (s.gives.answer ∙ ap answered_by i) ∙ ap (row_named (priced t) m) (sym i)
+      go (lost w z) i = none_named w (s.gives.answer ∙ ap answered_by i) ∙ ap (row_named (priced t) m) (sym i)
+
+-- without a table there is no row
+pub unnamed : (m : Machine) (o : Outcome) → 0 ≡ row_named unpriced m o
+unnamed m (took x) = refl
+unnamed m (kept r) = refl
+unnamed m (lost r x) = refl

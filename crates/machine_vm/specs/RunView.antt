@@ -1,11 +1,11 @@
 -- What the code's answers to run, trace_execution and trace_rows stand for: the path that their definitions say and what its steps cost; run writes no log,
 -- trace_execution the records of its steps, and trace_rows their rows too.
-use Rattle.std.specs.Prelude.{ℕ, ◌≤◌, ◌≡◌, Bool, true, false, List, [], length}
+use Rattle.std.specs.Prelude.{ℕ, ◌≤◌, ◌≡◌, Bool, true, false, List, [], length, ⊤}
 use Rattle.machine.specs.Lengths.{longest}
 use Rattle.machine.specs.Machine.{Memory, Machine}
 use Rattle.machine.specs.Decide.{decide_of}
 use Rattle.machine.specs.Records.{log_bytes}
-use Rattle.machine.specs.FeeTable.{Fees}
+use Rattle.machine.specs.FeeTable.{Fees, unpriced, priced}
 use Rattle.machine.specs.Fee.{fee_of}
 use Rattle.machine.specs.Path.{Path, log_from}
 use Rattle.machine.specs.Run.{call_by, run_of, trace_execution_of, trace_rows_of}
@@ -32,13 +32,21 @@ TracesRows f budget m b w r n b2 w2 =
     let p = trace_rows_of f budget m b w in
     RanOn p (fee_of f m p.machines) (path_log m p) (rows_from m p.machines) m.code b w r n b2 w2
 
--- ---- the three at once: t says whether records are asked for, u whether rows are, and p whether there is a table
+-- ---- the three at once: t says whether records are asked for, and u whether rows are
 
 -- what is not asked for is handed in all the same, and short
-pub record Lendable (t u p : Bool) (b w ps : List ℕ) : Type 0 where
+pub record Unasked (t u : Bool) (b w : List ℕ) : Type 0 where
   pub log : t ≡ false → length b ≤ longest
   pub table : u ≡ false → length w ≤ longest
-  pub prices : p ≡ true → Priceable ps
+
+-- prices, where there is a table
+abbrev pub Priced : Fees → List ℕ → Type 0
+Priced unpriced ps = ⊤
+Priced (priced t) ps = Priceable ps
+
+pub record Lendable (t u : Bool) (f : Fees) (b w ps : List ℕ) : Type 0 where
+  pub unasked : Unasked t u b w
+  pub prices : Priced f ps
 
 abbrev pub Calls : Bool → Bool → Fees → ℕ → Machine → List ℕ → List ℕ → Ran → Memory → List ℕ → List ℕ → Type 0
 Calls t u f budget m b w r n b2 w2 =

@@ -2,7 +2,7 @@
 use Rattle.std.specs.Prelude.{◌≡◌, Bool, true, false, List, ℕ, length}
 use Rattle.choices.specs.Choice.{cond}
 use Rattle.machine.specs.Machine.{Memory, Machine, machine}
-use Rattle.machine.specs.FeeTable.{FeeTable, fee_table, row_for, Fees, priced}
+use Rattle.machine.specs.FeeTable.{fee_table, row_for, Fees}
 use Rattle.machine.specs.Fee.{row_named}
 use Rattle.machine.specs.Step.{step_of}
 use Rattle.machine_perform.specs.declared.answer.Answer.{Answer}
@@ -27,7 +27,7 @@ taken_in (Refused e) = false
 pub record NamesRow (taken : Bool) (l h : List ℕ) (o r : ℕ) : Type 0 where
   pub row : (f : List ℕ) → length l ≡ length f → r ≡ cond taken (row_for (fee_table l h f) o) 0
 
--- step, and the row that priced it
-pub record StepsPriced (t : FeeTable) (m : Machine) (b : List ℕ) (r : Priced) (n : Memory) (b2 : List ℕ) : Type 0 where
-  pub steps : Steps (priced t) m b r.stepped n b2
-  pub row : r.row ≡ row_named (priced t) m (step_of (priced t) m b).outcome
+-- step, and the row that priced it; without a table 0
+pub record StepsPriced (f : Fees) (m : Machine) (b : List ℕ) (r : Priced) (n : Memory) (b2 : List ℕ) : Type 0 where
+  pub steps : Steps f m b r.stepped n b2
+  pub row : r.row ≡ row_named f m (step_of f m b).outcome

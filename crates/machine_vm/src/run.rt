@@ -1,111 +1,37 @@
-// run: steps up to a budget, with no records.
+// run: steps up to a budget, that record nothing.
 ghost use Rattle.machine.specs.Machine.{machine};
-ghost use Rattle.machine.specs.FeeTable.{fee_table, unpriced, priced};
-ghost use Rattle.machine.specs.Lent.{code_in, memory_in, memory_out};
+ghost use Rattle.machine.specs.Lent.{code_of, memory_of, Keeps};
+ghost use Rattle.machine_fees.specs.FeeView.{fees_of};
 ghost use Rattle.machine_vm.specs.RunView.{Runs};
 
 use crate::call::call;
+use machine::lent::{LentCode, LentMemory};
 use machine::state::VMState;
+use machine_fees::fee_table::LentFees;
 use machine_steps::answer::Ran;
 
-// A refused run keeps the steps before the refused one; by place A nothing is changed.
+// A refused run keeps the steps before the refused one. With a fee table it also says what the steps cost.
 pub fn run(
+    fees: Option<LentFees<'_>>,
     budget: u64,
     state: VMState,
-    opcodes: &[u64],
-    arguments: &[u64],
-    public: &[u64],
-    secret: &[u64],
-    digests: &[u64],
-    op_stack: &mut [u64],
-    origins: &mut [u64],
-    destinations: &mut [u64],
-    addresses: &mut [u64],
-    values: &mut [u64],
-    output: &mut [u64],
+    code: &LentCode<'_>,
+    memory: &mut LentMemory<'_>,
 ) -> Ran
-    ensures { Runs unpriced budget (machine state (code_in opcodes arguments public secret digests)
-        (memory_in op_stack origins destinations addresses values output)) result
-        (memory_out op_stack origins destinations addresses values output) }
+    ensures runs { Runs (fees_of fees.entry) budget (machine state (code_of code.now) (memory_of memory.old)) result (memory_of memory.new) }
+    ensures lent { Keeps memory.old memory.new }
 {
     let mut no_log = [0u8; 1];
     let mut no_table = [0u64; 1];
-    let no_fees = [0u64; 1];
-    let mut no_prices = [0u64; 1];
     call(
         false,
         false,
-        false,
-        budget,
-        state,
-        opcodes,
-        arguments,
-        public,
-        secret,
-        digests,
-        op_stack,
-        origins,
-        destinations,
-        addresses,
-        values,
-        output,
-        &mut no_log,
-        &mut no_table,
-        &no_fees,
-        &no_fees,
-        &no_fees,
-        &mut no_prices,
-    )
-}
-
-// With a fee table: the same, and what the steps cost.
-pub fn run_with_fees(
-    budget: u64,
-    state: VMState,
-    opcodes: &[u64],
-    arguments: &[u64],
-    public: &[u64],
-    secret: &[u64],
-    digests: &[u64],
-    op_stack: &mut [u64],
-    origins: &mut [u64],
-    destinations: &mut [u64],
-    addresses: &mut [u64],
-    values: &mut [u64],
-    output: &mut [u64],
-    lowest: &[u64],
-    highest: &[u64],
-    fees: &[u64],
-) -> Ran
-    ensures { Runs (priced (fee_table lowest.now highest.now fees.now)) budget (machine state (code_in opcodes arguments public secret digests)
-        (memory_in op_stack origins destinations addresses values output)) result
-        (memory_out op_stack origins destinations addresses values output) }
-{
-    let mut no_log = [0u8; 1];
-    let mut no_table = [0u64; 1];
-    let mut prices = [0u64; 128];
-    call(
-        false,
-        false,
-        true,
-        budget,
-        state,
-        opcodes,
-        arguments,
-        public,
-        secret,
-        digests,
-        op_stack,
-        origins,
-        destinations,
-        addresses,
-        values,
-        output,
-        &mut no_log,
-        &mut no_table,
-        lowest,
-        highest,
         fees,
-        &mut prices,
+        budget,
+        state,
+        code,
+        memory,
+        &mut no_log,
+        &mut no_table,
     )
 }

@@ -1,52 +1,52 @@
 // One entry: its step is taken, and what comes out is compared.
 use crate::counts::CALLS;
 use crate::entry::Entry;
+use crate::memory::{Code, Memory};
 use crate::registers::{same, same_sponge};
-use machine_open::helper_variables::{Helped, helper_variables};
+use machine::lent::{LentCode, LentMemory, SeenMemory};
+use machine::refusal::PlaceA;
+use machine::state::VMState;
+use machine_open::helper_variables::helper_variables;
 use machine_perform::answer::{Answer, Stepped};
-use machine_refusals::refusals::{Refusal, numbered};
+use machine_refusals::refusals::Refusal;
 use machine_vm::step::step;
 use std::io;
 
+fn lent(code: &Code) -> LentCode<'_> {
+    LentCode {
+        opcodes: &code.opcodes,
+        arguments: &code.arguments,
+        public: &code.public,
+        secret: &code.secret,
+        digests: &code.digests,
+    }
+}
+
 // The helper call, before the step.
-fn helped(e: &Entry) -> Helped {
-    let code = &e.code;
+fn helped(e: &Entry) -> Result<[u64; 6], PlaceA> {
     let memory = &e.memory;
-    helper_variables(
-        e.before,
-        &code.opcodes,
-        &code.arguments,
-        &code.public,
-        &code.secret,
-        &code.digests,
-        &memory.op_stack,
-        &memory.origins,
-        &memory.destinations,
-        &memory.addresses,
-        &memory.values,
-        &memory.output,
-    )
+    let seen = SeenMemory {
+        op_stack: &memory.op_stack,
+        origins: &memory.origins,
+        destinations: &memory.destinations,
+        addresses: &memory.addresses,
+        values: &memory.values,
+        output: &memory.output,
+    };
+    helper_variables(e.before, &lent(&e.code), &seen)
 }
 
 // The step, which changes the entry's memory.
-fn stepped(e: &mut Entry, calls: &mut [u8]) -> Stepped {
-    let code = &e.code;
-    let memory = &mut e.memory;
-    step(
-        e.before,
-        &code.opcodes,
-        &code.arguments,
-        &code.public,
-        &code.secret,
-        &code.digests,
-        &mut memory.op_stack,
-        &mut memory.origins,
-        &mut memory.destinations,
-        &mut memory.addresses,
-        &mut memory.values,
-        &mut memory.output,
-        calls,
-    )
+fn stepped(before: VMState, code: &Code, memory: &mut Memory, calls: &mut [u8]) -> Stepped {
+    let mut changed = LentMemory {
+        op_stack: &mut memory.op_stack,
+        origins: &mut memory.origins,
+        destinations: &mut memory.destinations,
+        addresses: &mut memory.addresses,
+        values: &mut memory.values,
+        output: &mut memory.output,
+    };
+    step(None, before, &lent(code), &mut changed, calls).stepped
 }
 
 // A number, 0 where the step is taken, and the three words that go with it.
@@ -58,7 +58,7 @@ fn answered(answer: Answer) -> Refusal {
             word1: 0,
             word2: 0,
         },
-        Answer::Refused(error) => numbered(error),
+        Answer::Refused(error) => Refusal::from(error),
     }
 }
 
@@ -68,17 +68,21 @@ fn carried(r: Refusal) -> [u64; 3] {
 
 // Prints a line for each difference, and gives back whether there is none.
 pub fn right(rt: &impl Print, index: u32, mut e: Entry) -> io::Result<bool> {
-    let helped = helped(&e);
+    let (helper_number, helpers) = match helped(&e) {
+        Ok(helpers) => (0, helpers),
+        Err(error) => (Refusal::from(error).number, [0u64; 6]),
+    };
     let mut calls = [0u8; CALLS];
     let room = e.room.min(CALLS);
-    let stepped = stepped(&mut e, &mut calls[..room]);
+    let job = &mut e;
+    let stepped = stepped(job.before, &job.code, &mut job.memory, &mut calls[..room]);
     let answer = answered(stepped.answer);
     let memory = &e.memory;
     let wanted = &e.memory_after;
     let parts = [
         ("length", e.whole),
-        ("helper number", helped.number == e.helper_number),
-        ("helper variables", helped.helpers == e.helpers),
+        ("helper number", helper_number == e.helper_number),
+        ("helper variables", helpers == e.helpers),
         ("number", answer.number == e.answer.number),
         ("carried words", carried(answer) == carried(e.answer)),
         ("registers", same(stepped.state, e.after)),

@@ -7,12 +7,16 @@ use native.Mathlib.Omega.{arith}
 use borrow.Author.Tests.{ne_eqb, eqb-true}
 use lib.ListN.{length, replicate}
 use lib.Dec.{eqb}
+use Rattle.machine.specs.declared.refusal.PlaceA.{PlaceA}
+use Rattle.machine.specs.Refusal.{number_a}
+use Rattle.machine.proofs.Refused.{number_a_some}
+use Rattle.replay_calls.specs.declared.refusal.Refusal.TheVariants.{Lent}
 use Rattle.machine.specs.Words.{p}
 use Rattle.machine.specs.Ram.{Cells}
 use Rattle.machine.specs.Records.{Record}
 use Rattle.replay_group.specs.declared.group.Sweep.{Sweep}
 use Rattle.replay_scan.specs.declared.scan.Scan.{Scan}
-use Rattle.std.specs.Prelude.{Ok, Err}
+use Rattle.std.specs.Prelude.{Ok, Err, Result, IsErrAnd}
 use Rattle.replay_scan.specs.declared.fault.Fault.{Fault}
 use Rattle.replay_scan.specs.FaultView.{fault_number, fault_or_0}
 use Rattle.replay_table.specs.declared.table.Table.{Table as LentTable}
@@ -155,11 +159,12 @@ words_of (S.Fines.more f h) = W.more (one f) (words_of h)
     one (is_of_ram a v d) = worded_ram a
 
 -- place A refuses it
-pub call-refused : (v : ℕ) (log s : List ℕ) (c : Cells) (j : ℕ) (e : Refusal) → (refusal_number e ≡ replay_a v log c s) × (replay_a v log c s ≡ 0 → ⊥) → replayed_by (Err e) s c ≡ replay_of v log c s j
+pub call-refused : (v : ℕ) (log s : List ℕ) (c : Cells) (j : ℕ) (e : PlaceA) (r : Result ℕ Refusal) → number_a e ≡ replay_a v log c s → IsErrAnd r (λ x. x ≡ Lent e) → replayed_by r s c ≡ replay_of v log c s j
 unfolding replay_of
-call-refused v log s c j e (h, k) =
-    let z : eqb (replay_a v log c s) 0 ≡ false = ne_eqb (replay_a v log c s) 0 k in
-    rw (z, h)
+call-refused v log s c j e (Ok d) h g = absurd g
+call-refused v log s c j e (Err x) h g =
+    let z : eqb (replay_a v log c s) 0 ≡ false = ne_eqb (replay_a v log c s) 0 (λ k. omega (arith, number_a_some e, h)) in
+    rw (z, g, h)
 
 -- and place A accepts it
 pub opens : (v : ℕ) (log s : List ℕ) (c : Cells) → replay_a v log c s ≡ 0 → Sorted c

@@ -1,5 +1,5 @@
 -- Place A of replay: where its code stops, and what is so where it finds nothing wrong. Assumes nothing.
-use mathlib.Core.Path.{◌≡◌, sym, ◌∙◌}
+use mathlib.Core.Path.{◌≡◌, refl, sym, ◌∙◌}
 use mathlib.Core.List.{List, []}
 use Prim.Native.Nat.{ℕ, ◌-◌, ◌≤◌, ◌<◌}
 use native.Mathlib.Omega.{arith}
@@ -14,27 +14,12 @@ use Rattle.machine.specs.Sound.{SoundCells}
 use Rattle.choices.proofs.Choice.{first-nil, above-nil}
 use Rattle.machine.proofs.Words.{zeros_nil, zeros_get_d}
 use Rattle.machine_isa.proofs.Copies.{fill_end}
-use Rattle.machine_place_a.proofs.ChecksLaws.{first-stop, first_then}
 use Rattle.machine.proofs.PlaceA.{cells-sound}
 use Rattle.replay.specs.Replay.{replay_a}
 
--- ---- the code's answers: lengths, words, then used cells and the stack slice
-
-module _ (r : ℕ) (log a v s : List ℕ) (count lengths : ℕ) (l-is : lengths ≡ first_of (too_long log) (first_of (cells1 (cells 0 a v)) (too_long s))) where
-  pub stop-lengths : 0 < lengths → lengths ≡ replay_a r log (cells count a v) s
-  unfolding replay_a cells1
-  stop-lengths h = first-stop _ _ lengths l-is h
-
-  module _ (fine : lengths ≤ 0) (words : ℕ) (w-is : words ≡ cells2 (cells count a v)) where
-    pub stop-words : 0 < words → words ≡ replay_a r log (cells count a v) s
-    unfolding replay_a cells1
-    stop-words h = first_then _ _ lengths words l-is fine (first-stop _ _ words w-is h)
-
-    pub stop-rest : (n : ℕ) → words ≤ 0 → n ≡ first_of (revision4 r) (first_of (cells5 (cells count a [])) (unused5 s 0)) → n ≡ replay_a r log (cells count a v) s
-    unfolding replay_a cells1 cells5
-    stop-rest n h e =
-        let z : length s - 0 ≡ length s = omega arith in
-        first_then _ _ lengths n l-is fine (first_then _ _ words n w-is h (rw z at e))
+-- the whole slice
+pub all_unused : (s : List ℕ) → unused5 s 0 ≡ zeros_from s 0 (length s)
+all_unused s = let z : length s - 0 ≡ length s = omega arith in rw z refl
 
 -- ---- nothing wrong
 

@@ -1,19 +1,16 @@
 -- Refusals as numbers.
-use Rattle.std.specs.Prelude.{ℕ, ◌≡◌, Result, Ok, Err, MatchResult}
+use Rattle.std.specs.Prelude.{ℕ, Result, Ok, Err}
+use Rattle.machine.specs.Refusal.{number_a}
 use Rattle.replay_scan.specs.declared.fault.Fault.{Fault}
 use Rattle.replay_scan.specs.FaultView.{fault_number}
 use Rattle.replay_calls.specs.declared.refusal.Refusal.{Refusal}
 use Rattle.replay_calls.specs.declared.refusal.Refusal.TheVariants.{Lent, Log}
 
 abbrev pub refusal_number : Refusal → ℕ
-refusal_number (Lent n) = n
+refusal_number (Lent e) = number_a e
 refusal_number (Log e) = fault_number e
 
 -- 0 where nothing is refused
 abbrev pub number_in : {A : Type 0} → Result A Fault → ℕ
 number_in (Ok x) = 0
 number_in (Err e) = fault_number e
-
--- refused with n, where that is not 0
-abbrev pub Checked : ℕ → Result Unit Refusal → Type 0
-Checked n r = MatchResult r (λ _. n ≡ 0) (λ e. (refusal_number e ≡ n) × (n ≡ 0 → ⊥))

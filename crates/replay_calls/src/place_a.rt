@@ -2,46 +2,26 @@
 ghost use Rattle.std.specs.Prelude.{◌≡◌, length, replicate};
 ghost use Rattle.replay.specs.Replay.{replay_a};
 ghost use Rattle.replay_table.specs.LentView.{cells_at};
-ghost use Rattle.replay_calls.specs.RefusalView.{Checked};
+ghost use Rattle.machine.specs.Refusal.{found_a};
 
-use crate::refusal::Refusal;
-use choices::numbers::{above, first};
+use machine::refusal::PlaceA;
 use machine_isa::op_stack;
 use machine_place_a::checks;
 use replay_scan::record::Log;
 use replay_table::cells::Cells;
 
-// The number of the first check that fails, 0 where none does. The log is looked at by its length alone.
-fn first_failed(log: Log<'_>, cells: &Cells<'_>, words: &[u64]) -> u64
-    ensures { result ≡ replay_a log.entry.revision log.entry.bytes.now (cells_at cells.now) words.now }
+// The log is looked at by its length alone.
+#[tactic(auto, using(crate::proofs::PlaceALaws::all_unused), unfolding(choices::specs::Choice::first_of, machine::specs::Ram::cells1, machine::specs::Ram::cells5, replay::specs::Replay::replay_a))]
+pub fn check_replay(log: Log<'_>, cells: &Cells<'_>, words: &[u64]) -> Result<(), PlaceA>
+    ensures { found_a result ≡ replay_a log.entry.revision log.entry.bytes.now (cells_at cells.now) words.now }
 {
-    let lent = first(
-        checks::cell_lengths(cells.addresses, cells.values),
-        above(words.len(), 16777216, 1),
-    );
-    let shape = checks::longer(log.bytes.len(), lent);
-    if 0 < shape {
-        return shape;
-    }
-    let used = checks::cell_words(cells.addresses, cells.values, cells.count);
-    if 0 < used {
-        return used;
-    }
-    let rest = first(
-        checks::used_cells(cells.addresses, cells.count),
-        checks::unused_words(words, 0),
-    );
-    checks::unknown_revision(log.revision, rest)
-}
-
-pub fn check_replay(log: Log<'_>, cells: &Cells<'_>, words: &[u64]) -> Result<(), Refusal>
-    ensures { Checked (replay_a log.entry.revision log.entry.bytes.now (cells_at cells.now) words.now) result }
-{
-    let number = first_failed(log, cells, words);
-    if number != 0 {
-        return Err(Refusal::Lent(number));
-    }
-    Ok(())
+    checks::check_length(log.bytes.len())?;
+    checks::check_cell_lengths(cells.addresses, cells.values)?;
+    checks::check_length(words.len())?;
+    checks::check_cell_words(cells.addresses, cells.values, cells.count)?;
+    checks::check_revision(log.revision)?;
+    checks::check_cells(cells.addresses, cells.count)?;
+    checks::check_unused(words, 0)
 }
 
 pub fn clear(words: &mut [u64])

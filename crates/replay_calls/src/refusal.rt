@@ -1,14 +1,15 @@
 // Why replay refuses.
 ghost use Rattle.std.specs.Prelude.{◌≡◌};
 ghost use Rattle.replay_calls.specs.RefusalView.{refusal_number};
-ghost use Rattle.replay_calls.specs.declared.refusal.Refusal.TheVariants.{Log};
+ghost use Rattle.replay_calls.specs.declared.refusal.Refusal.TheVariants.{Lent, Log};
 
+use machine::refusal::PlaceA;
+use machine_refusals::refusals::Refusal as Numbered;
 use replay_scan::fault::Fault;
 
 #[derive(Clone, Copy, PartialEq, Eq, Debug)]
 pub enum Refusal {
-    // what is lent, by the number of place A
-    Lent(u64),
+    Lent(PlaceA),
     Log(Fault),
 }
 
@@ -17,9 +18,17 @@ impl Refusal {
         ensures { result ≡ refusal_number self }
     {
         match self {
-            Refusal::Lent(number) => number,
+            Refusal::Lent(error) => Numbered::from(error).number,
             Refusal::Log(fault) => fault.number(),
         }
+    }
+}
+
+impl From<PlaceA> for Refusal {
+    ghost from_gives = { λ error r. r ≡ Lent error };
+
+    fn from(error: PlaceA) -> Refusal {
+        Refusal::Lent(error)
     }
 }
 

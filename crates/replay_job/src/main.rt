@@ -6,6 +6,7 @@ mod alter;
 mod memory_job;
 mod print;
 
+use machine::lent::{LentCode, LentMemory, OpeningMemory};
 use machine_open::open::open;
 use machine_vm::trace::trace_execution;
 use std::io;
@@ -38,39 +39,41 @@ fn main(rt: HostRuntime) -> io::Result<()> {
     let mut values = memory_job::VALUES;
     let mut output = [0u64; 8];
     let mut log = [0u8; 4096];
+    let code = LentCode {
+        opcodes: &opcodes,
+        arguments: &arguments,
+        public: &public,
+        secret: &none,
+        digests: &none,
+    };
+    let mut opening = OpeningMemory {
+        op_stack: &mut op_stack,
+        origins: &mut origins,
+        destinations: &mut destinations,
+        addresses: &addresses,
+        values: &values,
+        output: &output,
+    };
     let opened = open(
+        None,
         1,
-        memory_job::DIGEST,
+        &memory_job::DIGEST,
         memory_job::CELLS,
-        &opcodes,
-        &arguments,
-        &public,
-        &none,
-        &none,
-        &mut op_stack,
-        &mut origins,
-        &mut destinations,
-        &addresses,
-        &values,
-        &output,
+        &code,
+        &mut opening,
     );
-    let state = opened.state;
-    let traced = trace_execution(
-        100,
-        state,
-        &opcodes,
-        &arguments,
-        &public,
-        &none,
-        &none,
-        &mut op_stack,
-        &mut origins,
-        &mut destinations,
-        &mut addresses,
-        &mut values,
-        &mut output,
-        &mut log,
-    );
+    let Ok(state) = opened else {
+        return print::text(&rt, b"not opened\n");
+    };
+    let mut memory = LentMemory {
+        op_stack: &mut op_stack,
+        origins: &mut origins,
+        destinations: &mut destinations,
+        addresses: &mut addresses,
+        values: &mut values,
+        output: &mut output,
+    };
+    let traced = trace_execution(None, 100, state, &code, &mut memory, &mut log);
     print::number(&rt, b"steps ", traced.count)?;
     print::number(&rt, b" bytes ", traced.bytes as u64)?;
     print::text(&rt, b"\n")?;

@@ -13,9 +13,9 @@ use Rattle.choices.specs.Choice.{cond}
 use Rattle.machine.specs.Machine.{Code, Memory, Machine, machine}
 use Rattle.machine.specs.PlaceA.{longest}
 use Rattle.machine.specs.Decide.{decide_of}
-use Rattle.machine.specs.Apply.{took, kept, lost}
+use Rattle.machine.specs.Apply.{took, kept, lost, performed, dropped}
 use Rattle.machine.specs.Records.{Record, log_bytes}
-use Rattle.machine.specs.Step.{records_in}
+use Rattle.machine.specs.Step.{records_in, outcome_by}
 use Rattle.machine.specs.Lengths.{clock_bytes, most_bytes}
 use Rattle.machine.specs.FeeTable.{unpriced}
 use Rattle.machine.specs.Fee.{fee_of}
@@ -27,6 +27,10 @@ use Rattle.machine.proofs.PlaceA.{machine-accepted}
 use Rattle.machine.proofs.Facts.{facts}
 use Rattle.machine.proofs.Path.{after, Goes, at-halt, at_budget, at-full, at-refusal, at_drop, by_step, goes, path-halted, path-spent, path_on, path-ends, path-row, path_revision, path-sound}
 use Rattle.machine.proofs.Run.{call-is}
+use Rattle.machine.proofs.Step.{step-took, step-lost}
+use Rattle.machine.proofs.Preserved.{limits_fit}
+use Rattle.machine.proofs.OpStack.{put-length}
+use Rattle.machine.specs.Refusal.{Refusal}
 use Rattle.machine.proofs.Drops.{drops-deep}
 use Rattle.machine.proofs.Records.{Sized}
 use Rattle.machine_log.proofs.Logged.{logged-front}
@@ -73,6 +77,25 @@ path-lines {m = m} {p} g s one =
     let rs = log_from decide_of m p.machines in
     let sized = all_map (since-sized m.state.revision m.state.clock) (chain_fine decide_of facts (path-row decide_of g).chain s) in
     ap (λ (v : ℕ). log_lines (log_bytes v rs)) one ∙ log-lines rs (all-sized (subst (λ (v : ℕ). All (Sized v) rs) one sized))
+
+-- no step changes how much output is lent
+step-output : (m x : Machine) → outcome_by decide_of m ≡ took x → length x.memory.output ≡ length m.memory.output
+unfolding performed
+step-output m x h =
+    let k = step-took decide_of m x h in
+    rw (← k.is) (put-length m.memory.output k.effect.output m.state.outputs (limits_fit m k.effect k.limits).output)
+
+lost-output : (m : Machine) (r : Refusal) (x : Machine) → outcome_by decide_of m ≡ lost r x → length x.memory.output ≡ length m.memory.output
+unfolding dropped
+lost-output m r x h = rw (← (step-lost decide_of m r x h).1) refl
+
+path-output : {s : Space} {n : ℕ} {m : Machine} {p : Path} → Goes decide_of s n m p → length p.left.memory.output ≡ length m.memory.output
+path-output (at-halt h) = refl
+path-output (at_budget h) = refl
+path-output (at-full h l) = refl
+path-output (at-refusal h e) = refl
+path-output {m = m} (at_drop {x = x} {r = r} h e) = lost-output m r x e
+path-output {m = m} (by_step {x = x} h e g) = path-output g ∙ step-output m x e
 
 -- a path that was full has steps, unless there was no room for one
 full_some : {s : Space} {n : ℕ} {m : Machine} {p : Path} → Goes decide_of s n m p → too_little m.state.revision s ≡ false → is_full p.ending ≡ true → 0 < count p
@@ -131,6 +154,7 @@ pub record Followed (done n : ℕ) (x : Machine) (t : Ran) (y : Machine) (log : 
   pub some : is_full (ending_in t.ending) ≡ true → 0 < t.count
   pub sound : Sound y
   pub revision : y.state.revision ≡ 1
+  pub output : length y.memory.output ≡ length x.memory.output
   pub is : lines_from done n x ≡
       piece_lines (take t.bytes log) y.memory.output (ending_in t.ending) (done + t.count) y.state
       ++ cond (is_full (ending_in t.ending)) (lines_from (done + t.count) (n - t.count) y) []
@@ -157,6 +181,7 @@ followed done n x t m log log2 s one few step w =
           some = rw (r.steps, r.ending) (full_some g (ap (λ (v : ℕ). too_little v (bytes (length log))) one ∙ ap (λ (q : Bool). cond q true false) (le-ltb (length log) 1024 step)));
           sound = path-sound decide_of facts (λ m s r e. drops-deep m r e) g s;
           revision = path_revision decide_of g ∙ one;
+          output = path-output g;
           is = rw (r.steps, r.ending) (part-lines g done ∙ cut (is_full p.ending) _ _ _ _ lines);
         })
 
@@ -165,12 +190,12 @@ module _ (j : Pending) (c : Code) (m : Memory) (t : Ran) (n : Memory) (log log2 
     goes_on : Followed j.done j.budget (machine_for j c m) t (machine t.state (code_for j c) n) log2
     goes_on = followed j.done j.budget (machine_for j c m) t n log log2 y.sound y.revision (omega arith) (omega arith) w
 
-    pub piece-holds : (t.bytes ≤ length log2) × (t.state.outputs ≤ length n.output) × (j.done + t.count < 18446744073709551616) × (t.count ≤ j.budget)
-    piece-holds = let f = goes_on in (f.inside, f.sound.outputs, omega (arith, f.few, y.steps), f.few)
+    pub piece-holds : (t.bytes ≤ length log2) × (t.state.outputs ≤ length m.output) × (j.done + t.count < 18446744073709551616) × (t.count ≤ j.budget)
+    piece-holds = let f = goes_on in (f.inside, omega (arith, f.sound.outputs, f.output), omega (arith, f.few, y.steps), f.few)
 
     -- the log was full
-    pub piece-full : is_full (ending_in t.ending) ≡ true → length n.output ≡ length m.output → Writes j c m (Some (moved_on j t)) n (log_lines (take t.bytes log2))
-    piece-full h i =
+    pub piece-full : is_full (ending_in t.ending) ≡ true → Writes j c m (Some (moved_on j t)) n (log_lines (take t.bytes log2))
+    piece-full h =
         let f = goes_on in
         record {
           is = left-some j c m ∙ f.is
@@ -178,7 +203,7 @@ module _ (j : Pending) (c : Code) (m : Memory) (t : Ran) (n : Memory) (log log2 
               ∙ ap (λ (u : List ℕ). u ++ lines_from (j.done + t.count) (j.budget - t.count) (machine t.state (code_for j c) n)) (lines-full _ _ _ _ _ h)
               ∙ ap (λ (u : List ℕ). log_lines (take t.bytes log2) ++ u) (sym (left-some (moved_on j t) c n));
           less = omega (arith, f.some h, f.few);
-          ready = record { opcodes = y.opcodes; arguments = y.arguments; public = y.public; secret = y.secret; digests = y.digests; sound = f.sound; revision = f.revision; output = omega (arith, i, y.output); steps = omega (arith, f.few, y.steps) };
+          ready = record { opcodes = y.opcodes; arguments = y.arguments; public = y.public; secret = y.secret; digests = y.digests; sound = f.sound; revision = f.revision; steps = omega (arith, f.few, y.steps) };
         }
 
     -- the run has ended

@@ -9,9 +9,11 @@ use borrow.Author.Tests.{eq-eqb, ne_eqb}
 use lib.ListN.{length, take, drop, replicate, length-append, length-replicate}
 use lib.Seq.{take_at}
 use Rattle.choices.specs.Choice.{cond}
-use Rattle.machine.specs.Refusal.{Refusal, refusal_of}
 use Rattle.machine.specs.Machine.{Code, Memory, Machine, machine, code, memory}
-use Rattle.machine.specs.Apply.{Outcome, took, kept, lost}
+use Rattle.machine.specs.declared.lent.OpeningMemory.{OpeningMemory}
+use Rattle.machine.specs.Lent.{opening_of, KeepsOpening}
+use Rattle.machine.specs.Apply.{Outcome, took}
+use Rattle.machine.specs.declared.state.VMState.{VMState}
 use Rattle.machine_log.specs.Logged.{logged}
 use Rattle.machine.specs.FeeTable.{unpriced}
 use Rattle.machine.specs.Open.{open_of}
@@ -20,10 +22,7 @@ use Rattle.machine.specs.Path.{count, unlogged, path_by}
 use Rattle.machine.specs.Sound.{Sound}
 use Rattle.machine_log.proofs.Logged.{logged-front}
 use Rattle.machine.proofs.PlaceA.{open_sound}
-use Rattle.machine_perform.specs.declared.answer.Answer.TheVariants as A
-use Rattle.machine_perform.specs.declared.answer.Moved.{Moved}
-use Rattle.machine_perform.specs.AnswerView.{did, turned, answer_in, answered_by, left_by}
-use Rattle.machine_open.specs.OpenView.{no_state, Opens}
+use Rattle.machine_open.specs.OpenView.{Opens}
 use Rattle.job.specs.declared.job_file.JobFile.{JobFile}
 use Rattle.job.specs.JobFile.{Job, Filled, job_of}
 use Rattle.machine.specs.declared.refusal.InstructionError.{InstructionError}
@@ -53,12 +52,9 @@ filled-take {b} {b2} {words} {n} f = ap (take n) (f.is ∙ logged-front b words)
 pub zeros : (n : ℕ) {s : List ℕ} → s ≡ replicate n 0 → length s ≡ n
 zeros n e = ap length e ∙ length-replicate {A = ℕ} n 0
 
--- ---- the number of what open answers
-
-refused-lines : (budget : ℕ) (r : Refusal) (o : Outcome) → turned r ≡ answered_by o → on_opened budget o ≡ not_opened r.number
-refused-lines budget r (took x) h = absurd (cc)
-refused-lines budget r (kept q) h = let e : r ≡ q = cc in ap (λ (x : Refusal). not_opened x.number) (sym e)
-refused-lines budget r (lost q x) h = let e : r ≡ q = cc in ap (λ (x : Refusal). not_opened x.number) (sym e)
+-- an opening leaves what it may only look at
+pub opening-kept : {a b : OpeningMemory} → KeepsOpening a b → opening_of b ≡ memory b.op_stack.now b.origins.now b.destinations.now a.addresses.now a.values.now a.output.now
+opening-kept {a} {b} k = rw (k.addresses, k.values, k.output) refl
 
 -- ---- the job's lines
 
@@ -80,17 +76,10 @@ module _ (j : Job) where
   Open = open_of unpriced 1 j.digest (code_of j) (memory_of j) (length j.addresses)
 
   -- what an opened job prints, that its machine is sound and its log of revision 1
-  is-opened : (x : Machine) → left_by (machine no_state (code_of j) (memory_of j)) Open ≡ x → j.number ≡ 0 → did ≡ answered_by Open → (job_lines j ≡ run_lines j.budget x) × Sound x × (x.state.revision ≡ 1)
-  is-opened x l z k =
-      let q = go Open refl l k in
-      (good-lines j z ∙ q.0, q.1, q.2)
-    where
-      go : (o : Outcome) → Open ≡ o → left_by (machine no_state (code_of j) (memory_of j)) o ≡ x → did ≡ answered_by o → (on_opened j.budget o ≡ run_lines j.budget x) × Sound x × (x.state.revision ≡ 1)
-      go (took y) e q n =
-          let k = open_sound unpriced 1 j.digest (code_of j) (memory_of j) (length j.addresses) y e in
-          (ap (run_lines j.budget) q, subst Sound q k.sound, subst (λ (z : Machine). z.state.revision ≡ 1) q k.revision)
-      go (kept r) e q n = absurd (cc)
-      go (lost r y) e q n = absurd (cc)
+  is-opened : (x : Machine) → Open ≡ took x → j.number ≡ 0 → (job_lines j ≡ run_lines j.budget x) × Sound x × (x.state.revision ≡ 1)
+  is-opened x e z =
+      let k = open_sound unpriced 1 j.digest (code_of j) (memory_of j) (length j.addresses) x e in
+      (good-lines j z ∙ ap (on_opened j.budget) e, k.sound, k.revision)
 
 -- ---- the call
 
@@ -121,23 +110,15 @@ module _ (file : List ℕ) (j : JobFile) (l l2 : Lent) (s : Says (job_of file) j
           ap (λ (g : List ℕ). open_of unpriced 1 g Taken m j.cells) s.digest ∙ ap (λ (c : Code). open_of unpriced 1 (job_of file).digest c m j.cells) taken
           ∙ ap (λ (x : Memory). open_of unpriced 1 (job_of file).digest (code_of (job_of file)) x j.cells) lends ∙ ap (λ (n : ℕ). open_of unpriced 1 (job_of file).digest (code_of (job_of file)) (memory_of (job_of file)) n) s.addresses.count
 
-      module _ (r : Moved) (m2 : Memory) (o : Opens unpriced 1 j.digest Taken m j.cells r m2) where
-        answer_is : answer_in r.answer ≡ answered_by (Open (job_of file))
-        answer_is = o.is.answer ∙ ap answered_by same_open
-
-        left_is : left_by (machine no_state (code_of (job_of file)) (memory_of (job_of file))) (Open (job_of file)) ≡ machine r.state Taken m2
-        left_is =
-            sym
-            (o.is.left ∙ ap (λ (c : Code). left_by (machine no_state c m) (open_of unpriced 1 j.digest Taken m j.cells)) taken
-            ∙ ap (λ (x : Memory). left_by (machine no_state (code_of (job_of file)) x) (open_of unpriced 1 j.digest Taken m j.cells)) lends
-            ∙ ap (left_by (machine no_state (code_of (job_of file)) (memory_of (job_of file)))) same_open)
-
-        pub starts_opened : r.answer ≡ A.Took → j.budget < 18446744073709551616 → length m2.output ≡ 4096 → Starts file (Ok (pending_of j r.state)) (code l2.opcodes l2.arguments l2.public l2.secret l2.digests) m2
-        starts_opened f fits len =
-            let x = machine r.state Taken m2 in
-            let both = is-opened (job_of file) x left_is s.number (sym (ap answer_in f) ∙ answer_is) in
+      module _ (m2 : Memory) where
+        -- m3 is m2 as main knows it
+        pub starts_opened : (v : VMState) {m3 : Memory} → Opens unpriced 1 j.digest Taken m j.cells (Ok v) m2 → m2 ≡ m3 → j.budget < 18446744073709551616 →
+            Starts file (Ok (pending_of j v)) (code l2.opcodes l2.arguments l2.public l2.secret l2.digests) m3
+        starts_opened v {m3} o kept fits =
+            let x = machine v Taken m3 in
+            let both = is-opened (job_of file) x (sym same_open ∙ sym o.is ∙ ap (λ (n : Memory). took (machine v Taken n)) kept) s.number in
             record {
-              is = both.0 ∙ ap (λ (b : ℕ). run_lines b x) (sym s.budget) ∙ run-lines j.budget x ∙ sym (left-some (pending_of j r.state) (code l2.opcodes l2.arguments l2.public l2.secret l2.digests) m2);
+              is = both.0 ∙ ap (λ (b : ℕ). run_lines b x) (sym s.budget) ∙ run-lines j.budget x ∙ sym (left-some (pending_of j v) (code l2.opcodes l2.arguments l2.public l2.secret l2.digests) m3);
               ready =
                   record {
                     opcodes = filled-inside s.opcodes;
@@ -147,17 +128,18 @@ module _ (file : List ℕ) (j : JobFile) (l l2 : Lent) (s : Says (job_of file) j
                     digests = filled-inside s.digests;
                     sound = both.1;
                     revision = both.2;
-                    output = omega (arith, len);
                     steps = omega (arith, fits);
                   };
             }
 
-        pub starts_refused : (e : InstructionError) {c : Code} → r.answer ≡ A.Refused e → Starts file (Err (N.Refused e)) c m2
-        starts_refused e f =
-            record {
-              is = good-lines (job_of file) s.number ∙ refused-lines (job_of file).budget (refusal_of e) (Open (job_of file)) (sym (ap answer_in f) ∙ answer_is);
+        pub starts_refused : (e : InstructionError) {c : Code} {m3 : Memory} (r : Result Pending NotOpened) → Opens unpriced 1 j.digest Taken m j.cells (Err e) m2 → IsErrAnd r (λ x. x ≡ N.Refused e) → Starts file r c m3
+        starts_refused e (Ok x) o h = absurd h
+        starts_refused e (Err x) o h =
+            rw h
+            (record {
+              is = good-lines (job_of file) s.number ∙ ap (on_opened (job_of file).budget) (sym (o.is ∙ same_open));
               ready = tt;
-            }
+            })
 
 -- a broken file
 starts_broken : (file : List ℕ) {l l2 : Lent} (b : BrokenFile) {c : Code} {m : Memory} → Breaks (job_of file) l l2 → Starts file (Err (N.Broken b)) c m

@@ -17,8 +17,7 @@ use Rattle.runjob.specs.Pieces.{machine_for, left_lines, is_full}
 abbrev pub EndsWith : Ending → Counts → Option EndLine → Type 0
 EndsWith e c l = MatchOption l (is_full e ≡ true) (λ x. (is_full e ≡ false) × (end_text x ≡ end_line e c.steps c.pointer c.depth))
 
--- the words of the job j are inside what is lent, its machine is sound, with a log of revision 1 and at most 4,096 output words, and its steps can
--- be counted
+-- the words of the job j are inside what is lent, its machine is sound, with a log of revision 1, and its steps can be counted
 pub record Ready (j : Pending) (c : Code) (m : Memory) : Type 0 where
   pub opcodes : j.slots ≤ length c.opcodes
   pub arguments : j.slots ≤ length c.arguments
@@ -27,7 +26,6 @@ pub record Ready (j : Pending) (c : Code) (m : Memory) : Type 0 where
   pub digests : j.digests ≤ length c.digests
   pub sound : Sound (machine_for j c m)
   pub revision : j.state.revision ≡ 1
-  pub output : length m.output ≤ 4096
   pub steps : j.done + j.budget < 18446744073709551616
 
 -- how many pieces may follow

@@ -5,13 +5,12 @@ ghost use Rattle.runjob.specs.Refusals.{number_of};
 
 use job::job_file::BrokenFile;
 use machine::refusal::InstructionError;
-use machine_refusals::refusals::numbered;
+use machine_refusals::refusals::Refusal;
 
 pub fn number(error: InstructionError) -> u64
     ensures { result ≡ (refusal_of error).number }
 {
-    let r = numbered(error);
-    r.number
+    Refusal::from(error).number
 }
 
 // The file is broken, or open refuses the job that it says.
@@ -39,5 +38,15 @@ impl From<BrokenFile> for NotOpened {
 
     fn from(broken: BrokenFile) -> NotOpened {
         NotOpened::Broken(broken)
+    }
+}
+
+impl From<InstructionError> for NotOpened {
+    ghost use Rattle.runjob.specs.declared.refusals.NotOpened.TheVariants.{Refused};
+
+    ghost from_gives = { λ error r. r ≡ Refused error };
+
+    fn from(error: InstructionError) -> NotOpened {
+        NotOpened::Refused(error)
     }
 }

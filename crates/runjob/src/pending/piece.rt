@@ -10,6 +10,7 @@ use crate::refusals::number;
 use crate::space::Space;
 use job::listing::{Counts, EndLine, OutLines};
 use job::log_lines::StackLines;
+use machine::lent::{LentCode, LentMemory};
 use machine_steps::answer::Ending;
 use machine_vm::trace::trace_execution;
 use std::alloc::AllocError;
@@ -41,20 +42,27 @@ pub fn piece(
     let publics = job.publics;
     let secrets = job.secrets;
     let digests = job.digests;
+    let code = LentCode {
+        opcodes: &space.opcodes[..slots],
+        arguments: &space.arguments[..slots],
+        public: &space.public[..publics],
+        secret: &space.secret[..secrets],
+        digests: &space.digests[..digests],
+    };
+    let mut memory = LentMemory {
+        op_stack: &mut space.op_stack,
+        origins: &mut space.origins,
+        destinations: &mut space.destinations,
+        addresses: &mut space.addresses,
+        values: &mut space.values,
+        output: &mut space.output,
+    };
     let t = trace_execution(
+        None,
         job.budget,
         job.state,
-        &space.opcodes[..slots],
-        &space.arguments[..slots],
-        &space.public[..publics],
-        &space.secret[..secrets],
-        &space.digests[..digests],
-        &mut space.op_stack,
-        &mut space.origins,
-        &mut space.destinations,
-        &mut space.addresses,
-        &mut space.values,
-        &mut space.output,
+        &code,
+        &mut memory,
         &mut space.log,
     );
     let bytes = t.bytes;

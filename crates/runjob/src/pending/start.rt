@@ -6,8 +6,8 @@ use crate::pending::Pending;
 use crate::refusals::NotOpened;
 use crate::space::Space;
 use job::job_file::{Words, read_job};
+use machine::lent::{LentCode, OpeningMemory};
 use machine_open::open::open;
-use machine_perform::answer::Answer;
 
 pub fn start(file: &[u8], space: &mut Space) -> Result<Pending, NotOpened>
     requires { Blank (space_code space.old) (space_memory space.old) }
@@ -27,32 +27,30 @@ pub fn start(file: &[u8], space: &mut Space) -> Result<Pending, NotOpened>
     let publics = j.publics;
     let secrets = j.secrets;
     let digests = j.digests;
-    let m = open(
-        1,
-        j.digest,
-        j.cells,
-        &space.opcodes[..slots],
-        &space.arguments[..slots],
-        &space.public[..publics],
-        &space.secret[..secrets],
-        &space.digests[..digests],
-        &mut space.op_stack,
-        &mut space.origins,
-        &mut space.destinations,
-        &space.addresses,
-        &space.values,
-        &space.output,
-    );
-    match m.answer {
-        Answer::Took => Ok(Pending {
-            slots,
-            publics,
-            secrets,
-            digests,
-            done: 0,
-            budget: j.budget,
-            state: m.state,
-        }),
-        Answer::Refused(error) => Err(NotOpened::Refused(error)),
-    }
+    let code = LentCode {
+        opcodes: &space.opcodes[..slots],
+        arguments: &space.arguments[..slots],
+        public: &space.public[..publics],
+        secret: &space.secret[..secrets],
+        digests: &space.digests[..digests],
+    };
+    let mut memory = OpeningMemory {
+        op_stack: &mut space.op_stack,
+        origins: &mut space.origins,
+        destinations: &mut space.destinations,
+        addresses: &space.addresses,
+        values: &space.values,
+        output: &space.output,
+    };
+    let digest = j.digest;
+    let state = open(None, 1, &digest, j.cells, &code, &mut memory)?;
+    Ok(Pending {
+        slots,
+        publics,
+        secrets,
+        digests,
+        done: 0,
+        budget: j.budget,
+        state,
+    })
 }

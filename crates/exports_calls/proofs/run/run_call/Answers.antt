@@ -1,25 +1,22 @@
-use Rattle.machine.specs.FeeTable.{unpriced}
-use Rattle.exports_words.proofs.CallsLaws.{fits-facts, answered}
+use Rattle.std.proofs.Common.{refl}
+use Rattle.exports_words.proofs.CallsLaws.{fitting_some, fitting_none, few_words, said, answered}
 use Rattle.exports_calls.proofs.RunCallLaws.{run-called, run_misfits}
-use native.Mathlib.Omega.{arith}
 use Rattle.exports_calls.proofs.run.run_call.Goals as goal
 
-pub read_registers-state-requires : goal.read_registers-state-requires
-read_registers-state-requires c =
-    (fits-facts _ _ 7 c.fits.ensures c.if-fits.true).registers
+pub turn_down-requires : goal.turn_down-requires
+turn_down-requires c = few_words _ c.answer_words-n.ensures
+
+pub returns-in-None-clause-gives : goal.returns-in-None-clause-gives
+returns-in-None-clause-gives c =
+    run_misfits _ _ _ _ _ _ refl (fitting_none _ _ _ _ c.answer_words-n.ensures c.in-None.ensures) (said _ c.answer_words-n.ensures c.turn_down.ensures)
 
 pub write_registers-requires : goal.write_registers-requires
-write_registers-requires c =
-    (fits-facts _ _ 7 c.fits.ensures c.if-fits.true).registers.long
+write_registers-requires c = (fitting_some _ _ _ _ _ c.answer_words-n.ensures c.in-Some.ensures).registers.long
 
 pub write_answer-requires : goal.write_answer-requires
-write_answer-requires c =
-    omega (arith, (fits-facts _ _ 7 c.fits.ensures c.if-fits.true).answer)
+write_answer-requires c = few_words _ (fitting_some _ _ _ _ _ c.answer_words-n.ensures c.in-Some.ensures).answer
 
-pub returns-then-fits : goal.returns-then-fits
-returns-then-fits c =
-    run-called unpriced _ _ _ _ _ c.fits.ensures c.if-fits.true c.read_registers-state.ensures c.run-r.ensures c.run_report-report.ensures c.write_registers.ensures (answered _ (fits-facts _ _ 7 c.fits.ensures c.if-fits.true).answer c.write_answer.ensures)
-
-pub returns-else-fits : goal.returns-else-fits
-returns-else-fits c =
-    run_misfits unpriced _ _ _ _ _ c.fits.ensures c.if-fits.false c.turn_down.ensures
+pub returns-clause-gives : goal.returns-clause-gives
+returns-clause-gives c =
+    let f = fitting_some _ _ _ _ _ c.answer_words-n.ensures c.in-Some.ensures in
+    run-called _ _ _ _ _ _ refl f.fits f.state c.run-r.ensures.runs c.run_report-report.ensures c.write_registers.ensures (answered _ f.answer c.write_answer.ensures)

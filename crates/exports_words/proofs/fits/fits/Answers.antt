@@ -1,11 +1,6 @@
 use mathlib.Core.Path.{sym, ◌∙◌}
-use Rattle.exports_words.specs.Calls.{fits_of}
+use Rattle.exports_words.proofs.RegistersLaws.{readable-facts}
 use Rattle.exports_words.proofs.fits.fits.Goals as goal
 
-pub returns-then-readable : goal.returns-then-readable
-unfolding fits_of
-returns-then-readable c = rw (sym c.readable.ensures ∙ c.if-readable.true)
-
-pub returns-else-readable : goal.returns-else-readable
-unfolding fits_of
-returns-else-readable c = rw (sym c.readable.ensures ∙ c.if-readable.false)
+pub read_registers-requires : goal.read_registers-requires
+read_registers-requires c = readable-facts _ (sym c.readable.ensures ∙ c.if-readable.true)

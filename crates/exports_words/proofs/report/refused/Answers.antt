@@ -4,4 +4,4 @@ use Rattle.exports_words.specs.Report.{report}
 use Rattle.exports_words.proofs.report.refused.Goals as goal
 
 pub returns : goal.returns
-returns c = ap (λ (x : Refusal). report 3 x c.args.steps c.args.bytes c.args.price) c.numbered-refusal.ensures
+returns c = ap (λ (x : Refusal). report 3 x c.args.steps c.args.bytes c.args.price) c.from-refusal.ensures

@@ -1,11 +1,8 @@
-use mathlib.Core.Path.{refl}
-use Rattle.machine_fees.proofs.FeeLaws.{rows_is, table-rows, table-opcodes}
+use Rattle.machine_fees.proofs.FeeLaws.{table_rows, table_opcodes}
 use Rattle.machine_fees.proofs.fee_table.check_table.Goals as goal
 
-pub returns-then-n-eq0 : goal.returns-then-n-eq0
-returns-then-n-eq0 c =
-    table-opcodes _ _ _ _ (rows_is c.args.lowest.now c.args.highest.now c.args.fees.now _ _ _ c.requires.0.lowest c.first-n.ensures c.above.ensures c.turned.ensures) c.if-n-eq0.true c.price_opcodes.ensures
+pub returns-in_err-check_rows : goal.returns-in_err-check_rows
+returns-in_err-check_rows c = table_rows _ _ _ _ c.in_err-check_rows.ensures c.from_residual.ensures.1
 
-pub returns-else-n-eq0 : goal.returns-else-n-eq0
-returns-else-n-eq0 c =
-    table-rows _ _ _ _ (rows_is c.args.lowest.now c.args.highest.now c.args.fees.now _ _ _ c.requires.0.lowest c.first-n.ensures c.above.ensures c.turned.ensures) c.if-n-eq0.false refl
+pub returns : goal.returns
+returns c = table_opcodes _ _ _ c.in_ok-check_rows.ensures c.price_opcodes.ensures

@@ -1,19 +1,16 @@
-use borrow.Author.Rules.{rules}
-use mathlib.Core.Path.{◌≡◌}
-use lib.ListN.{length}
+use Rattle.std.proofs.Common.{rules, ◌≡◌, length}
 use Rattle.machine_helpers.proofs.HelpersLaws.{sound-helpable}
-use Rattle.machine_open.proofs.GivenLaws.{accepted-sound, given_is, given-turned}
+use Rattle.machine_open.proofs.GivenLaws.{accepted_sound, given_is, given_turned}
 use Rattle.machine_open.proofs.helper_variables.helper_variables.Goals as goal
 
-pub helpers-words-requires : goal.helpers-words-requires
-helpers-words-requires c =
-    let w = c.args.state.sponge.words in
-    let sixteen : length w ≡ 16 = search rules in
-    let h = sound-helpable _ (accepted-sound _ c.check_machine-n.ensures c.if-n-eq0.true sixteen (search rules)) in
+pub returns-in_err-check_machine : goal.returns-in_err-check_machine
+returns-in_err-check_machine c = given_turned _ _ _ 6 _ c.in_err-check_machine.ensures c.from_residual.ensures.1
+
+pub helpers-requires : goal.helpers-requires
+helpers-requires c =
+    let sixteen : length c.args.state.sponge.words ≡ 16 = search rules in
+    let h = sound-helpable _ (accepted_sound _ c.in_ok-check_machine.ensures sixteen (search rules)) in
     record { slots = h.slots; deep = h.deep; used = h.used; words = h.words; digests = h.digests; usable = h.usable }
 
-pub returns-then-n-eq0 : goal.returns-then-n-eq0
-returns-then-n-eq0 c = given_is _ c.check_machine-n.ensures c.if-n-eq0.true 6 (c.helpers-words.ensures.is _ _ _ _ _)
-
-pub returns-else-n-eq0 : goal.returns-else-n-eq0
-returns-else-n-eq0 c = given-turned _ c.check_machine-n.ensures c.if-n-eq0.false 6 _
+pub returns : goal.returns
+returns c = given_is _ c.in_ok-check_machine.ensures 6 (c.helpers.ensures.is _ _ _ _ _)

@@ -1,14 +1,13 @@
-use Rattle.machine_open.proofs.OpenLaws.{open_deep, open_took, open_kept}
+use Rattle.machine_open.proofs.OpenLaws.{open_number, open_deep, open_took, open_kept}
 use Rattle.machine_open.proofs.open.checked.Goals as goal
 
+pub returns-in_err-check_fees-clause-opens : goal.returns-in_err-check_fees-clause-opens
+returns-in_err-check_fees-clause-opens c =
+    open_kept _ _ _ _ _ _ (open_number _ _ _ _ c.look.ensures c.check_open-handed.ensures) _ _ c.in_err-check_fees.ensures c.from_residual.ensures.1
+
 pub open_stack-requires : goal.open_stack-requires
-open_stack-requires c =
-    open_deep _ _ _ _ _ c.check_open-n.ensures c.check_fees-fault.ensures c.if-fault-eq0.true
+open_stack-requires c = open_deep _ _ _ _ _ _ (open_number _ _ _ _ c.look.ensures c.check_open-handed.ensures) c.in_ok-check_fees.ensures
 
-pub returns-then-fault-eq0 : goal.returns-then-fault-eq0
-returns-then-fault-eq0 c =
-    open_took _ _ _ _ _ c.check_open-n.ensures c.check_fees-fault.ensures c.if-fault-eq0.true c.registers.ensures c.open_stack.ensures c.wipe.ensures c.wipe-then-fault-eq0.ensures
-
-pub returns-else-fault-eq0 : goal.returns-else-fault-eq0
-returns-else-fault-eq0 c =
-    open_kept _ _ _ _ _ c.check_open-n.ensures c.check_fees-fault.ensures c.if-fault-eq0.false c.registers-else-fault-eq0.ensures
+pub returns-clause-opens : goal.returns-clause-opens
+returns-clause-opens c =
+    open_took _ _ _ _ _ _ (open_number _ _ _ _ c.look.ensures c.check_open-handed.ensures) c.in_ok-check_fees.ensures c.registers.ensures c.open_stack.ensures c.wipe.ensures c.wipe-2.ensures

@@ -4,4 +4,4 @@ use Rattle.machine_open.proofs.open.open_stack.Goals as goal
 
 pub returns : goal.returns
 returns c =
-    stack-opened c.args.digest _ c.requires c.apply.ensures refl
+    stack-opened c.args.digest.now _ c.requires c.apply.ensures refl

@@ -1,15 +1,16 @@
-use mathlib.Core.Path.{sym, ◌∙◌}
-use Rattle.machine.proofs.Refused.{numbered_is}
+use mathlib.Core.Path.{refl, sym}
+use native.Mathlib.Omega.{arith}
+use Rattle.machine.specs.Refusal.{refusal_of}
 use Rattle.machine_perform.proofs.SettleLaws.{no_code, settled-took, settled-kept}
+use Rattle.machine.proofs.Refused.{number_d_some}
 use Rattle.machine_perform.proofs.settle.settle.Goals as goal
 
-pub perform-next-requires : goal.perform-next-requires
-perform-next-requires c =
-    c.requires.ready no_code (sym (c.limits-n.ensures.is no_code) ∙ c.if-n-eq0.true)
+pub perform-requires : goal.perform-requires
+perform-requires c = c.requires.ready no_code (sym (c.in-Ok.ensures.is no_code))
 
-pub returns-then-n-eq0 : goal.returns-then-n-eq0
-returns-then-n-eq0 c =
-    record { is = λ o. settled-took _ _ _ _ (sym (c.limits-n.ensures.is o) ∙ c.if-n-eq0.true) (c.perform-next.ensures.is o) }
+pub returns-in-Ok : goal.returns-in-Ok
+returns-in-Ok c = record { is = λ o. settled-took _ _ _ _ (sym (c.in-Ok.ensures.is o)) (c.perform.ensures.is o) }
 
-pub returns-else-n-eq0 : goal.returns-else-n-eq0
-returns-else-n-eq0 c = record { is = λ o. settled-kept _ _ _ _ (c.limits-n.ensures.is o) c.if-n-eq0.false (numbered_is _) }
+pub returns-in-Err : goal.returns-in-Err
+unfolding refusal_of
+returns-in-Err c = record { is = λ o. settled-kept _ _ _ _ (c.in-Err.ensures.is o) (λ z. omega (arith, number_d_some c.in-Err.error)) refl }

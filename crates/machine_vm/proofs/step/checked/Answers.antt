@@ -1,23 +1,15 @@
-use borrow.Author.Rules.{rules}
-use Rattle.machine_vm.proofs.StepLaws.{step-number, stands, stepped, step-turned}
-use Prim.Native.Nat.{◌<◌}
-use native.Mathlib.Omega.{arith}
-use mathlib.Core.Path.{◌≡◌}
-use lib.ListN.{length}
-use borrow.Author.Rules.{rules}
+use Rattle.std.proofs.Common.{rules, ◌≡◌, ◌<◌, length, arith}
+use Rattle.machine_vm.proofs.StepLaws.{step_number, stands, stepped, step_turned}
 use Rattle.machine_vm.proofs.step.checked.Goals as goal
 
 pub advance-requires : goal.advance-requires
 advance-requires c =
-    let w = c.args.state.sponge.words in
-    let sixteen : length w ≡ 16 = search rules in
-    let early : c.args.state.clock < 4294967296 = omega (arith, c.well_formed.1.0) in
-    stands _ _ sixteen early (step-number _ c.args.b.now c.check_buffer-shape.ensures c.check_machine-fault_number.ensures c.first-n.ensures) c.check_fees-fault.ensures c.if-fault-eq0.true
+    let sixteen : length c.args.state.sponge.words ≡ 16 = search rules in
+    let early : c.args.state.clock < 4294967296 = search rules in
+    stands _ _ _ sixteen early (step_number _ _ _ c.look.ensures c.check_step-handed.ensures) c.in-Ok.ensures
 
-pub returns-then-fault-eq0 : goal.returns-then-fault-eq0
-returns-then-fault-eq0 c =
-    stepped _ _ (step-number _ c.args.b.now c.check_buffer-shape.ensures c.check_machine-fault_number.ensures c.first-n.ensures) c.check_fees-fault.ensures c.if-fault-eq0.true c.advance.ensures
+pub returns-in-Ok-clause-steps : goal.returns-in-Ok-clause-steps
+returns-in-Ok-clause-steps c = stepped _ _ _ (step_number _ _ _ c.look.ensures c.check_step-handed.ensures) c.in-Ok.ensures c.advance.ensures
 
-pub returns-else-fault-eq0 : goal.returns-else-fault-eq0
-returns-else-fault-eq0 c =
-    step-turned _ _ (step-number _ c.args.b.now c.check_buffer-shape.ensures c.check_machine-fault_number.ensures c.first-n.ensures) c.check_fees-fault.ensures c.if-fault-eq0.false
+pub returns-in-Err-clause-steps : goal.returns-in-Err-clause-steps
+returns-in-Err-clause-steps c = step_turned _ _ _ (step_number _ _ _ c.look.ensures c.check_step-handed.ensures) c.in-Err.ensures

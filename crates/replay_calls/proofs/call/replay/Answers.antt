@@ -1,24 +1,22 @@
-use mathlib.Core.Path.{refl}
-use Rattle.std.proofs.lemmas.Result.{err_from_is_err_and}
+use mathlib.Core.Path.{refl, sym}
 use Rattle.replay_scan.proofs.ScanLaws.{fault_some}
 use Rattle.replay_calls.proofs.Deciding.{call-refused, opens, scans, call-wrong, call-right}
 use Rattle.replay_calls.proofs.QuietLaws.{scan_quiet}
 use Rattle.replay_calls.proofs.call.replay.Goals as goal
 
 pub returns-in_err-check_replay-clause-replayed : goal.returns-in_err-check_replay-clause-replayed
-returns-in_err-check_replay-clause-replayed c =
-    let p = err_from_is_err_and c.from_residual.result c.from_residual.ensures.1 in rw (p.1, p.2) (call-refused _ _ _ _ c.args.clock c.in_err-check_replay.field-0.0 c.in_err-check_replay.ensures)
+returns-in_err-check_replay-clause-replayed c = call-refused _ _ _ _ c.args.clock _ _ c.in_err-check_replay.ensures c.from_residual.ensures.1
 
 pub by_table-requires : goal.by_table-requires
 by_table-requires c =
-    (scans c.scan_log-scan.ensures (opens _ _ _ _ c.in_ok-check_replay.ensures), scan_quiet c.scan_log-scan.ensures)
+    (scans c.scan_log-scan.ensures (opens _ _ _ _ (sym c.in_ok-check_replay.ensures)), scan_quiet c.scan_log-scan.ensures)
 
 pub returns-in-Err-clause-replayed : goal.returns-in-Err-clause-replayed
 returns-in-Err-clause-replayed c =
     let t = c.in-Err.ensures.rebuilds in
-    call-wrong _ _ _ _ _ _ _ _ c.in_ok-check_replay.ensures c.scan_log-scan.ensures t.decides _ refl _ (t.kept (fault_some c.in-Err.fault)) _ c.scan_log-scan.auto.words c.clear.ensures
+    call-wrong _ _ _ _ _ _ _ _ (sym c.in_ok-check_replay.ensures) c.scan_log-scan.ensures t.decides _ refl _ (t.kept (fault_some c.in-Err.fault)) _ c.scan_log-scan.auto.words c.clear.ensures
 
 pub returns-clause-replayed : goal.returns-clause-replayed
 returns-clause-replayed c =
     let t = c.in_default.ensures.rebuilds in
-    call-right _ _ _ _ _ _ _ _ c.in_ok-check_replay.ensures c.scan_log-scan.ensures t.decides refl _ (t.written refl)
+    call-right _ _ _ _ _ _ _ _ (sym c.in_ok-check_replay.ensures) c.scan_log-scan.ensures t.decides refl _ (t.written refl)
