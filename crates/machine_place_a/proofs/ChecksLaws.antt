@@ -1,6 +1,6 @@
 -- What the turns of place A's loops show. Assumes nothing.
 use mathlib.Core.Path.{◌≡◌, refl, sym, ap, ◌∙◌}
-use mathlib.Core.Bool.{Bool, true, false}
+use mathlib.Core.Bool.{Bool, true, false, ◌&&◌}
 use mathlib.Core.List.{List, []}
 use Prim.Native.Nat.{ℕ, zero, suc, ◌+◌, ◌-◌, ◌≤◌, ◌<◌, min}
 use native.Mathlib.Numerals.{add-one}
@@ -16,7 +16,7 @@ use Rattle.machine.specs.declared.refusal.PlaceA.{PlaceA}
 use Rattle.machine.specs.declared.refusal.PlaceA.TheVariants as A
 use Rattle.machine.specs.Refusal.{number_a, found_a}
 use Rattle.field.specs.Base.{p}
-use Rattle.choices.specs.Choice.{first_of, above_of}
+use Rattle.choices.specs.Choice.{cond, first_of, above_of}
 use Rattle.machine.specs.Words.{word_of2, words_of, zeros_from}
 use Rattle.machine.specs.Instruction.{Decoded, known, unknown, known_in, decode}
 use Rattle.machine.specs.Machine.{Code, Memory, code}
@@ -51,12 +51,11 @@ module _ (f t : ℕ → ℕ) (turn : (n : ℕ) → f (suc n) ≡ first_of (f n) 
 
 -- ---- words
 
-words_turn : (s : List ℕ) (n : ℕ) → words_of s (suc n) ≡ first_of (words_of s n) (word_of2 (get_or s n 0))
-unfolding words_of
-words_turn s n = refl
-
-pub words_more : (s : List ℕ) (i : ℕ) → words_of s i ≡ 0 → 0 ≡ word_of2 (get_or s i 0) → words_of s (i + 1) ≡ 0
-words_more s i h k = scan_more (words_of s) _ (words_turn s) i h (sym k)
+-- whether so many are words, and one more
+pub words_all : (b : Bool) (s : List ℕ) (i : ℕ) → cond b 0 2 ≡ words_of s i → cond (b && ltb (get_or s i 0) p) 0 2 ≡ words_of s (i + 1)
+unfolding words_of word_of2 first_of
+words_all true s i h = rw (add-one i, ← h) refl
+words_all false s i h = rw (add-one i, ← h) refl
 
 -- the words of the first so many
 pub words_take : (s : List ℕ) (m n : ℕ) → n ≤ m → words_of (take m s) n ≡ words_of s n
@@ -69,10 +68,6 @@ words_used s n r e =
     let l : length (take r s) ≡ r = length-take-le r s (omega arith) in
     let k : r ≡ min n (length s) = omega arith in
     rw (l, words_take s r r (omega arith), k) refl
-
--- a word that is found
-pub words_found : (s : List ℕ) (i n k : ℕ) → i < n → words_of s i ≡ 0 → k ≡ word_of2 (get_or s i 0) → 0 < k → k ≡ words_of s n
-words_found s i n k m h e l = sym (scan_stop (words_of s) _ (words_turn s) i n k m l h (sym e))
 
 -- ---- unused words
 
