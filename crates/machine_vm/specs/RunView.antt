@@ -39,14 +39,14 @@ pub record Unasked (t u : Bool) (b w : List ℕ) : Type 0 where
   pub log : t ≡ false → length b ≤ longest
   pub table : u ≡ false → length w ≤ longest
 
--- prices, where there is a table
-abbrev pub Priced : Fees → List ℕ → Type 0
-Priced unpriced ps = ⊤
-Priced (priced t) ps = Priceable ps
+-- there is room for prices, where there is a table
+abbrev pub PriceableBy : Fees → List ℕ → Type 0
+PriceableBy unpriced ps = ⊤
+PriceableBy (priced t) ps = Priceable ps
 
 pub record Lendable (t u : Bool) (f : Fees) (b w ps : List ℕ) : Type 0 where
   pub unasked : Unasked t u b w
-  pub prices : Priced f ps
+  pub prices : PriceableBy f ps
 
 abbrev pub Calls : Bool → Bool → Fees → ℕ → Machine → List ℕ → List ℕ → Ran → Memory → List ℕ → List ℕ → Type 0
 Calls t u f budget m b w r n b2 w2 =

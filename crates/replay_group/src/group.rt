@@ -85,7 +85,7 @@ fn is_wrong(
     }
 }
 
-// The records before the place `to`, for a group from `low` on.
+// The records before the place `to`, for a group from `low` on. It goes on by each record's own length, as scan_log does, whose line says why no iterator.
 fn pass_log(
     log: Log<'_>,
     to: usize,

@@ -56,6 +56,7 @@ fn alter_record(rt: &impl Print, log: &mut [u8], at: usize, frame: Frame) -> io:
     }
 }
 
+// By each record's own length; an iterator over the records would keep the log lent, which is written to here.
 pub fn alter_reads(rt: &impl Print, log: &mut [u8]) -> io::Result<()> {
     let mut at = 0;
     while at < log.len() {
