@@ -1,4 +1,2 @@
-// Choices between numbers, for all layers.
+// Choices between numbers, for all layers: definitions and laws, without code.
 #![tactic(auto)]
-
-pub mod numbers;

@@ -9,7 +9,6 @@ ghost use Rattle.exports_words.specs.Report.{unrefused, report, misfit, answer_o
 use machine::refusal::InstructionError;
 use machine::state::VMState;
 use machine_fees::fee_table::LentFees;
-use machine_perform::answer::Answer;
 use machine_refusals::refusals::Refusal;
 use machine_steps::answer::Ending;
 use tip5::words::copy;
@@ -59,12 +58,12 @@ fn refused(error: InstructionError, steps: u64, bytes: u64, price: u64) -> Repor
     }
 }
 
-pub fn step_report(answer: Answer, bytes: usize, row: usize) -> Report
+pub fn step_report(answer: Result<(), InstructionError>, bytes: usize, row: usize) -> Report
     ensures { result ≡ step_report (answer_in answer) bytes row }
 {
     match answer {
-        Answer::Took => unrefused(0, 1, bytes as u64, row as u64),
-        Answer::Refused(error) => refused(error, 0, bytes as u64, row as u64),
+        Ok(()) => unrefused(0, 1, bytes as u64, row as u64),
+        Err(error) => refused(error, 0, bytes as u64, row as u64),
     }
 }
 

@@ -1,5 +1,5 @@
 // Arithmetic on words. A word is a u64 below P; products take any u64.
-ghost use Rattle.std.specs.Prelude.{◌≡◌, ◌+◌, ◌*◌, ◌-◌, ◌/◌, ◌%◌, ◌^◌, ◌<◌, ◌≤◌, ltb};
+ghost use Rattle.std.specs.Prelude.{◌≡◌, ◌+◌, ◌*◌, ◌-◌, ◌/◌, ◌%◌, ◌^◌, ◌<◌};
 ghost use Rattle.field.specs.Base.{p, add_p, sub_p, neg_p, mul_p, pow_p, inverse_p};
 
 pub const P: u64 = 0xffff_ffff_0000_0001;
@@ -111,18 +111,7 @@ pub fn inverse(a: u64) -> u64
     inverse_or_zero(a)
 }
 
-// Whether a number is a word.
-pub fn is_word(x: u64) -> bool
-    ensures { result ≡ ltb x p }
-{
-    x < P
-}
-
-pub fn is_u32(x: u64) -> bool
-    ensures { result ≡ ltb x (2 ^ 32) }
-{
-    x < 0x1_0000_0000
-}
+// A function for each half: one for both would take a flag that says which.
 
 // The upper half of x.
 pub fn high(x: u64) -> u64

@@ -1,6 +1,6 @@
 // Arithmetic on extension words, by value. Products and inverses take any coefficients; sums and differences take words.
 ghost use Rattle.std.specs.Prelude.{◌≡◌, ◌+◌, ◌*◌, ◌<◌, Some};
-ghost use Rattle.field.specs.Base.{p, add_p, mul_p};
+ghost use Rattle.field.specs.Base.{add_p};
 ghost use Rattle.field.specs.Extension.{WordsX, text_x, lift_x, add_x, neg_x, sub_x, mul_x, scale_x, adjugate_x, inverse_x};
 
 use super::base;

@@ -6,8 +6,9 @@ use native.Mathlib.Omega.{arith}
 use native.Mathlib.Numerals.{add-one}
 use borrow.Author.Tests.{lt-ltb, le-ltb}
 use lib.ListN.{length, get_or, set, take, length-append}
-use lib.Seq.{take-suc}
-use Rattle.machine_log.proofs.Logged.{joined, logged_none, store_one}
+use lib.Seq.{take-suc, sets-eq}
+use Rattle.machine_log.specs.Logged.{logged}
+use Rattle.machine_log.proofs.Logged.{joined, logged_none}
 use Rattle.std.specs.Fmt.{decimal}
 use Rattle.std.proofs.lemmas.Fmt.{AppendsLastDigit, decimal_from_appends, length-decimal-le}
 use Rattle.job.specs.Listing.{digits_of, decimal_of, field_of, counts_of, out_line, Put}
@@ -62,7 +63,8 @@ pub put-none : (b : List ℕ) (at : ℕ) → Put b b at [] 0 at
 put-none b at = record { is = logged_none b at; end = omega arith; few = omega arith }
 
 pub put-at : (b : List ℕ) (at x next : ℕ) → at < length b → next ≡ at + 1 → Put b (set b at x) at (x ∷ []) 1 next
-put-at b at x next h e = record { is = store_one b at x h; end = e; few = omega arith }
+unfolding logged
+put-at b at x next h e = record { is = sets-eq (x ∷ []) b at (omega arith); end = e; few = omega arith }
 
 -- the same text under another name, of at most m bytes
 pub put_as : {b b2 r s : List ℕ} {at n m next : ℕ} → Put b b2 at r n next → r ≡ s → length s ≤ m → Put b b2 at s m next

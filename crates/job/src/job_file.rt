@@ -1,5 +1,5 @@
 // A job file read: what runjob is given on its standard input. The file is gone through once for each kind of number in it.
-ghost use Rattle.std.specs.Prelude.{◌≡◌, ◌+◌, ◌≤◌, ◌<◌, length, get_or, drop, eqb, MatchResult};
+ghost use Rattle.std.specs.Prelude.{◌≡◌, ◌+◌, ◌<◌, length, get_or, drop, eqb, MatchResult};
 ghost use Rattle.std.specs.Iterator.{at_most};
 ghost use Rattle.choices.specs.Choice.{cond};
 ghost use Rattle.job.specs.Listing.{Put};

@@ -1,5 +1,5 @@
 // The stack lines of a log.
-ghost use Rattle.std.specs.Prelude.{◌≡◌, ◌≤◌, length, Some};
+ghost use Rattle.std.specs.Prelude.{◌≡◌, length, Some};
 ghost use Rattle.std.specs.Iterator.{at_most};
 ghost use Rattle.machine.specs.Records.{length_of, record_of};
 ghost use Rattle.job.specs.Frame.{size_by, Stands};

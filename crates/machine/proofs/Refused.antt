@@ -1,6 +1,6 @@
 -- What place A and a fee table make of the calls that take at most one step: where the number is 0 open opens, and elsewhere each gives it and changes nothing
 -- (call-refuses in Run.antt says it of the others). Assumes nothing.
-use mathlib.Core.Path.{◌≡◌, refl}
+use mathlib.Core.Path.{◌≡◌, ap, ◌∙◌}
 use mathlib.Core.List.{List}
 use Prim.Native.Nat.{ℕ, ◌<◌}
 use native.Mathlib.Omega.{arith}
@@ -15,7 +15,7 @@ use Rattle.machine.specs.declared.refusal.FeeError.{FeeError}
 use Rattle.machine.specs.declared.refusal.FeeError.TheVariants as F
 use Rattle.machine.specs.declared.refusal.InstructionError.{InstructionError}
 use Rattle.machine.specs.declared.refusal.InstructionError.TheVariants as E
-use Rattle.machine.specs.Refusal.{number_a, number_b, number_d, fee_refusal, refusal_of, found_a}
+use Rattle.machine.specs.Refusal.{number_a, number_b, number_d, fee_refusal, refusal_of, found_by}
 use borrow.Author.Tests.{eq-eqb, ne_eqb}
 use lib.ListN.{replicate}
 use Rattle.machine.specs.Machine.{Code, Memory, Machine}
@@ -73,9 +73,9 @@ refusal_some E.SpongeNotInitialized = omega arith
 refusal_some (E.NoRoom e) = number_d_some e
 
 -- what a `?` hands on
-pub handed_on : {A : Type 0} (r : Result A PlaceA) (e : PlaceA) (x : ℕ) → IsErrAnd r (λ k. k ≡ e) → number_a e ≡ x → found_a r ≡ x
-handed_on (Ok v) e x h k = absurd h
-handed_on (Err d) e x h k = rw h k
+pub handed_on : {A E R : Type 0} (n : R) (says : E → R) (r : Result A E) (e : E) (x : R) → IsErrAnd r (λ k. k ≡ e) → says e ≡ x → found_by n says r ≡ x
+handed_on n says (Ok v) e x h k = absurd h
+handed_on n says (Err d) e x h k = ap says h ∙ k
 
 -- ---- where a call is accepted or refused
 

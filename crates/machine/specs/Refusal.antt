@@ -120,21 +120,22 @@ refusal_of E.LogarithmOfZero = logarithm_of_zero
 refusal_of E.SpongeNotInitialized = sponge_not_initialized
 refusal_of (E.NoRoom e) = plainly (number_d e)
 
--- ---- what a check found, as a number, 0 where it found nothing
+-- ---- what a check found: what its error says, and n where it found nothing
 
+abbrev pub found_by : {A E R : Type 0} → R → (E → R) → Result A E → R
+found_by n says (Ok _) = n
+found_by n says (Err e) = says e
+
+-- as a number
 abbrev pub found_a : {A : Type 0} → Result A PlaceA → ℕ
-found_a (Ok _) = 0
-found_a (Err e) = number_a e
+found_a = found_by 0 number_a
 
 abbrev pub found_b : {A : Type 0} → Result A PlaceB → ℕ
-found_b (Ok _) = 0
-found_b (Err e) = number_b e
+found_b = found_by 0 number_b
 
 abbrev pub found_d : {A : Type 0} → Result A PlaceD → ℕ
-found_d (Ok _) = 0
-found_d (Err e) = number_d e
+found_d = found_by 0 number_d
 
--- the same with the words that it carries
+-- with the words that it carries
 abbrev pub found : {A : Type 0} → Result A InstructionError → Refusal
-found (Ok _) = plainly 0
-found (Err e) = refusal_of e
+found = found_by (plainly 0) refusal_of

@@ -1,7 +1,7 @@
 use tip5::sponge::Sponge;
 
 // The registers of a job. Everything else is lent with each call.
-#[derive(Clone, Copy)]
+#[derive(Clone, Copy, PartialEq, Eq, Debug)]
 pub struct VMState {
     // How many steps were taken.
     pub clock: u32,

@@ -1,13 +1,14 @@
 -- What the machine's &, ^, count_ones and leading_zeros give is what the definitions say of the digits. Assumes nothing.
 use mathlib.Core.Path.{◌≡◌, refl, ap, ap₂, ◌∙◌}
 use mathlib.Core.Bool.{Bool, true, false}
-use Prim.Native.Nat.{ℕ, zero, suc, ◌+◌, ◌*◌, ◌/◌, ◌%◌, ◌^◌, ◌≤◌, ◌<◌, min}
+use Prim.Native.Nat.{ℕ, zero, suc, ◌+◌, ◌*◌, ◌/◌, ◌%◌, ◌^◌, ◌<◌, min}
 use native.Mathlib.Nat.{pow-suc, zero-add}
 use native.Mathlib.Omega.{arith}
-use borrow.Author.Tests.{eqb-true, eqb-false, lt-ltb}
+use borrow.Author.Tests.{eqb-true, eqb-false}
+use mir.Val.{bool_byte}
 use lib.Bits.{bit_and, bit_xor, differ, and_step, xor_step}
 use lib.Count.{ones, count_leading_zeros, ones_step}
-use lib.Dec.{eqb, ltb}
+use lib.Dec.{eqb}
 use Rattle.choices.specs.Choice.{cond}
 use Rattle.machine.specs.Bits.{ones_of, highest_of, both_of, either_of}
 
@@ -82,10 +83,8 @@ either_digits (suc n) a b h k =
     xor_step a b
     ∙ join (either_digits n (a / 2) (b / 2) (half n a h) (half n b k)) (digit_xor (a % 2) (b % 2) (omega arith) (omega arith))
 
--- ---- the test for a u32
+-- ---- a test as a number
 
-pub low : (a : ℕ) → a ≤ 0xffff_ffff → a < 2 ^ 32
-low a h = omega arith
-
-pub within : (a : ℕ) → a ≤ 0xffff_ffff → ltb a (2 ^ 32) ≡ true
-within a h = lt-ltb a (2 ^ 32) (low a h)
+pub bit-of : (b : Bool) → bool_byte b ≡ cond b 1 0
+bit-of true = refl
+bit-of false = refl

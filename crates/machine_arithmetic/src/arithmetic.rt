@@ -1,104 +1,105 @@
-// Arithmetic on words and on extension words. w is the top sixteen words, bottom first: ST i is w[15 - i].
+// Arithmetic on words and on extension words.
 ghost use Rattle.std.specs.Prelude.{◌≡◌, ◌<◌, ◌+◌};
 ghost use Rattle.field.specs.Base.{p};
 ghost use Rattle.field.specs.Extension.{WordsX};
 ghost use Rattle.machine.specs.Words.{Words};
+ghost use Rattle.machine.specs.Effect.{acts, puts};
 ghost use Rattle.machine_effects.specs.EffectView.{decision_of};
-ghost use Rattle.machine.specs.Arithmetic.{add_of, addi_of, mul_of, invert_of, eq_of, xst, zero_x, xx_add_of, xx_mul_of, x_invert_of, xb_mul_of};
+ghost use Rattle.machine.specs.Arithmetic.{add_of, addi_of, mul_of, invert_of, eq_of, xst, words_x, xx_add_of, xx_mul_of, x_invert_of, xb_mul_of};
 
 use field::base;
 use field::extension::XFieldElement;
 use machine::refusal::InstructionError;
-use machine_effects::effect;
-use machine_effects::effect::Decided;
+use machine_effects::effect::{Decided, Effect};
+use machine_isa::few::Few;
+use machine_isa::op_stack::Top;
 
-pub fn add(w: [u64; 16]) -> Decided
-    requires { Words w }
-    ensures { decision_of result ≡ add_of w }
+pub fn add(w: &Top) -> Decided
+    requires { Words w.now.words }
+    ensures { decision_of result ≡ add_of w.now.words }
 {
-    effect::put1(2, base::add(w[15], w[14]))
+    Ok(Effect::puts(2, Few::of([base::add(w.word(0), w.word(1))])))
 }
 
-pub fn addi(w: [u64; 16], a: u64) -> Decided
-    requires { (Words w) × (a < p) }
-    ensures { decision_of result ≡ addi_of w a }
+pub fn addi(w: &Top, a: u64) -> Decided
+    requires { (Words w.now.words) × (a < p) }
+    ensures { decision_of result ≡ addi_of w.now.words a }
 {
-    effect::put1(1, base::add(w[15], a))
+    Ok(Effect::puts(1, Few::of([base::add(w.word(0), a)])))
 }
 
-pub fn mul(w: [u64; 16]) -> Decided
-    ensures { decision_of result ≡ mul_of w }
+pub fn mul(w: &Top) -> Decided
+    ensures { decision_of result ≡ mul_of w.now.words }
 {
-    effect::put1(2, base::mul(w[15], w[14]))
+    Ok(Effect::puts(2, Few::of([base::mul(w.st(0), w.st(1))])))
 }
 
-pub fn invert(w: [u64; 16]) -> Decided
-    requires { Words w }
-    ensures { decision_of result ≡ invert_of w }
+pub fn invert(w: &Top) -> Decided
+    requires { Words w.now.words }
+    ensures { decision_of result ≡ invert_of w.now.words }
 {
-    let a = w[15];
+    let a = w.word(0);
     if a == 0 {
-        effect::refuse(InstructionError::InverseOfZero)
-    } else {
-        effect::put1(1, base::inverse_or_zero(a))
+        return Err(InstructionError::InverseOfZero.into());
     }
+    Ok(Effect::puts(1, Few::of([base::inverse_or_zero(a)])))
 }
 
-pub fn eq(w: [u64; 16]) -> Decided
-    ensures { decision_of result ≡ eq_of w }
+pub fn eq(w: &Top) -> Decided
+    ensures { decision_of result ≡ eq_of w.now.words }
 {
-    if w[15] == w[14] {
-        effect::put1(2, 1)
-    } else {
-        effect::put1(2, 0)
-    }
+    Ok(Effect::puts(2, Few::of([u64::from(w.st(0) == w.st(1))])))
 }
 
 // The extension word in ST i to ST i + 2.
-fn element(w: [u64; 16], i: usize) -> XFieldElement
-    requires { (Words w) × (i < 14) }
-    ensures { (result ≡ xst w i) × (WordsX result) }
+pub fn element(w: &Top, i: usize) -> XFieldElement
+    requires { (Words w.now.words) × (i < 14) }
+    ensures is { result ≡ xst w.now.words i }
+    ensures words { WordsX result }
 {
     XFieldElement {
-        c0: w[15 - i],
-        c1: w[14 - i],
-        c2: w[13 - i],
+        c0: w.word(i),
+        c1: w.word(i + 1),
+        c2: w.word(i + 2),
     }
 }
 
-pub fn xx_add(w: [u64; 16]) -> Decided
-    requires { Words w }
-    ensures { decision_of result ≡ xx_add_of w }
+// Takes words off and puts an extension word on.
+fn put(pops: usize, x: XFieldElement) -> Decided
+    ensures { decision_of result ≡ acts (puts pops (words_x x)) }
 {
-    let x = element(w, 0) + element(w, 3);
-    effect::put3(6, x.c2, x.c1, x.c0)
+    Ok(Effect::puts(pops, Few::of([x.c2, x.c1, x.c0])))
 }
 
-pub fn xx_mul(w: [u64; 16]) -> Decided
-    requires { Words w }
-    ensures { decision_of result ≡ xx_mul_of w }
+// A sum and a product are a line each: a closure for the operation would be no shorter.
+pub fn xx_add(w: &Top) -> Decided
+    requires { Words w.now.words }
+    ensures { decision_of result ≡ xx_add_of w.now.words }
 {
-    let x = element(w, 0) * element(w, 3);
-    effect::put3(6, x.c2, x.c1, x.c0)
+    put(6, element(w, 0) + element(w, 3))
 }
 
-pub fn x_invert(w: [u64; 16]) -> Decided
-    requires { Words w }
-    ensures { decision_of result ≡ x_invert_of w }
+pub fn xx_mul(w: &Top) -> Decided
+    requires { Words w.now.words }
+    ensures { decision_of result ≡ xx_mul_of w.now.words }
+{
+    put(6, element(w, 0) * element(w, 3))
+}
+
+pub fn x_invert(w: &Top) -> Decided
+    requires { Words w.now.words }
+    ensures { decision_of result ≡ x_invert_of w.now.words }
 {
     let x = element(w, 0);
     if x == XFieldElement::from(0) {
-        effect::refuse(InstructionError::InverseOfZero)
-    } else {
-        let y = x.inverse_or_zero();
-        effect::put3(3, y.c2, y.c1, y.c0)
+        return Err(InstructionError::InverseOfZero.into());
     }
+    put(3, x.inverse_or_zero())
 }
 
-pub fn xb_mul(w: [u64; 16]) -> Decided
-    requires { Words w }
-    ensures { decision_of result ≡ xb_mul_of w }
+pub fn xb_mul(w: &Top) -> Decided
+    requires { Words w.now.words }
+    ensures { decision_of result ≡ xb_mul_of w.now.words }
 {
-    let x = element(w, 1).scale(w[15]);
-    effect::put3(4, x.c2, x.c1, x.c0)
+    put(4, element(w, 1).scale(w.word(0)))
 }

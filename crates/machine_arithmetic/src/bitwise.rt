@@ -1,98 +1,99 @@
 // Arithmetic on u32. Each records its operands for the U32 table; xor under and's opcode.
-ghost use Rattle.std.specs.Prelude.{◌≡◌, [] as Nil, ◌∷◌, ◌<◌, ◌/◌, ◌%◌};
-ghost use Rattle.machine.specs.Effect.{acts, refuses, recording, u32 as called};
+ghost use Rattle.std.specs.Prelude.{◌≡◌, ℕ, [] as Nil, ◌∷◌, ◌<◌, ◌^◌, ltb};
+ghost use Rattle.machine.specs.Machine.{st};
+ghost use Rattle.machine.specs.Effect.{acts, recording, u32_only, u32 as called};
 ghost use Rattle.machine_effects.specs.EffectView.{decision_of};
-ghost use Rattle.machine.specs.Refusal.{failed_u32_conversion};
-ghost use Rattle.machine.specs.Bits.{ones_of, highest_of};
+ghost use Rattle.machine_arithmetic.specs.U32.{IsU32};
+ghost use Rattle.choices.specs.Choice.{cond};
+ghost use Rattle.machine.specs.Bits.{ones_of, highest_of, both_of, either_of};
 ghost use Rattle.machine.specs.Bitwise.{split_of, lt_of, and_of, xor_of, log2_floor_of, pow_of, div_mod_of, pop_count_of};
 
 use field::base;
 use machine::refusal::InstructionError;
-use machine_effects::effect;
-use machine_effects::effect::{Decided, U32Call};
+use machine_effects::effect::{Decided, Effect, U32Call, U32Calls};
+use machine_isa::few::Few;
+use machine_isa::op_stack::Top;
 
-const U32_MAX: u64 = 0xffff_ffff;
+pub fn as_u32(a: u64) -> Result<u32, InstructionError>
+    ensures { IsU32 a result }
+{
+    match u32::try_from(a) {
+        Ok(n) => Ok(n),
+        Err(_) => Err(InstructionError::FailedU32Conversion(a)),
+    }
+}
 
 // Takes words off, puts one on, and records one call.
-fn put1_u32(pops: usize, a: u64, opcode: u64, left: u64, right: u64) -> Decided
+fn put(pops: usize, a: u64, opcode: u64, left: u64, right: u64) -> Decided
     ensures { decision_of result ≡ acts (recording (called opcode left right ∷ Nil) pops (a ∷ Nil)) }
 {
-    let mut words = [0u64; 16];
-    words[0] = a;
     let call = U32Call {
-        opcode: opcode,
-        left: left,
-        right: right,
+        opcode,
+        left,
+        right,
     };
-    effect::puts_u32(pops, 1, words, 1, call, call)
+    Ok(Effect::puts_u32(pops, Few::of([a]), U32Calls::One(call)))
 }
 
-fn not_u32(a: u64) -> Decided
-    ensures { decision_of result ≡ refuses (failed_u32_conversion a) }
+pub fn split(w: &Top) -> Decided
+    ensures { decision_of result ≡ split_of w.now.words }
 {
-    effect::refuse(InstructionError::FailedU32Conversion(a))
-}
-
-pub fn split(w: [u64; 16]) -> Decided
-    ensures { decision_of result ≡ split_of w }
-{
-    let hi = base::high(w[15]);
-    let lo = base::low(w[15]);
-    let mut words = [0u64; 16];
-    words[0] = hi;
-    words[1] = lo;
+    let a = w.st(0);
+    let hi = base::high(a);
+    let lo = base::low(a);
     let call = U32Call {
         opcode: 4,
         left: lo,
         right: hi,
     };
-    effect::puts_u32(1, 2, words, 1, call, call)
+    Ok(Effect::puts_u32(1, Few::of([hi, lo]), U32Calls::One(call)))
 }
 
-pub fn lt(w: [u64; 16]) -> Decided
-    ensures { decision_of result ≡ lt_of w }
+// Two u32 are taken off, what an operation makes of them is put on, and both are recorded.
+fn of_two<F: FnOnce(u32, u32) -> u64>(w: &Top, opcode: u64, operation: F) -> Decided
+    requires { F.IsAlwaysCallable operation }
+    ensures { (made : ℕ) × (st w.now.words 0 < 2 ^ 32 → st w.now.words 1 < 2 ^ 32 → F.post operation (st w.now.words 0) (st w.now.words 1) made)
+        × (decision_of result ≡ u32_only (st w.now.words 0) (u32_only (st w.now.words 1) (acts (recording (called opcode (st w.now.words 0) (st w.now.words 1) ∷ Nil) 2 (made ∷ Nil))))) }
 {
-    let a = w[15];
-    let b = w[14];
-    if U32_MAX < a {
-        return not_u32(a);
-    }
-    if U32_MAX < b {
-        return not_u32(b);
-    }
-    if a < b {
-        put1_u32(2, 1, 6, a, b)
-    } else {
-        put1_u32(2, 0, 6, a, b)
-    }
+    let a = as_u32(w.st(0))?;
+    let b = as_u32(w.st(1))?;
+    put(2, operation(a, b), opcode, u64::from(a), u64::from(b))
 }
 
-pub fn and(w: [u64; 16]) -> Decided
-    ensures { decision_of result ≡ and_of w }
+pub fn lt(w: &Top) -> Decided
+    ensures { decision_of result ≡ lt_of w.now.words }
 {
-    let a = w[15];
-    let b = w[14];
-    if U32_MAX < a {
-        return not_u32(a);
-    }
-    if U32_MAX < b {
-        return not_u32(b);
-    }
-    put1_u32(2, a & b, 14, a, b)
+    of_two(
+        w,
+        6,
+        |a: u32, b: u32| -> u64
+            ensures { result ≡ cond (ltb a b) 1 0 }
+        { u64::from(a < b) },
+    )
 }
 
-pub fn xor(w: [u64; 16]) -> Decided
-    ensures { decision_of result ≡ xor_of w }
+pub fn and(w: &Top) -> Decided
+    ensures { decision_of result ≡ and_of w.now.words }
 {
-    let a = w[15];
-    let b = w[14];
-    if U32_MAX < a {
-        return not_u32(a);
-    }
-    if U32_MAX < b {
-        return not_u32(b);
-    }
-    put1_u32(2, a ^ b, 14, a, b)
+    of_two(
+        w,
+        14,
+        |a: u32, b: u32| -> u64
+            ensures { result ≡ both_of 32 a b }
+        { u64::from(a & b) },
+    )
+}
+
+pub fn xor(w: &Top) -> Decided
+    ensures { decision_of result ≡ xor_of w.now.words }
+{
+    of_two(
+        w,
+        14,
+        |a: u32, b: u32| -> u64
+            ensures { result ≡ either_of 32 a b }
+        { u64::from(a ^ b) },
+    )
 }
 
 // The place of the highest digit that is 1.
@@ -100,90 +101,65 @@ fn highest(a: u32) -> u64
     requires { 0 < a }
     ensures { result ≡ highest_of 31 a }
 {
-    (31 - u32::leading_zeros(a)) as u64
+    u64::from(31 - a.leading_zeros())
 }
 
-pub fn log_2_floor(w: [u64; 16]) -> Decided
-    ensures { decision_of result ≡ log2_floor_of w }
+pub fn log_2_floor(w: &Top) -> Decided
+    ensures { decision_of result ≡ log2_floor_of w.now.words }
 {
-    let a = w[15];
-    if U32_MAX < a {
-        return not_u32(a);
-    }
+    let a = as_u32(w.st(0))?;
     if a == 0 {
-        effect::refuse(InstructionError::LogarithmOfZero)
-    } else {
-        put1_u32(1, highest(a as u32), 12, a, 0)
+        return Err(InstructionError::LogarithmOfZero.into());
     }
+    put(1, highest(a), 12, u64::from(a), 0)
 }
 
 // The base may be any word.
-pub fn pow(w: [u64; 16]) -> Decided
-    ensures { decision_of result ≡ pow_of w }
+pub fn pow(w: &Top) -> Decided
+    ensures { decision_of result ≡ pow_of w.now.words }
 {
-    let b = w[15];
-    let e = w[14];
-    if U32_MAX < e {
-        return not_u32(e);
-    }
-    put1_u32(2, base::mod_pow(b, e), 30, b, e)
+    let b = w.st(0);
+    let e = as_u32(w.st(1))?;
+    let exponent = u64::from(e);
+    put(2, base::mod_pow(b, exponent), 30, b, exponent)
 }
 
-// Quotient and remainder of n by d, with the calls that show them.
-fn divided(n: u64, d: u64) -> Decided
-    requires { 0 < d }
-    ensures { decision_of result ≡ acts (recording (called 6 (n % d) d ∷ called 4 n (n / d) ∷ Nil) 2 (n / d ∷ n % d ∷ Nil)) }
+// ST 0 is divided by ST 1; quotient and remainder come with the calls that show them.
+pub fn div_mod(w: &Top) -> Decided
+    ensures { decision_of result ≡ div_mod_of w.now.words }
 {
-    let q = n / d;
-    let r = n % d;
-    let mut words = [0u64; 16];
-    words[0] = q;
-    words[1] = r;
+    let above = w.st(0);
+    let below = w.st(1);
+    let n = as_u32(above)?;
+    let d = as_u32(below)?;
+    if d == 0 {
+        return Err(InstructionError::DivisionByZero.into());
+    }
+    let q = u64::from(n / d);
+    let r = u64::from(n % d);
     let less = U32Call {
         opcode: 6,
         left: r,
-        right: d,
+        right: below,
     };
     let whole = U32Call {
         opcode: 4,
-        left: n,
+        left: above,
         right: q,
     };
-    effect::puts_u32(2, 2, words, 2, less, whole)
-}
-
-// ST 0 is divided by ST 1.
-pub fn div_mod(w: [u64; 16]) -> Decided
-    ensures { decision_of result ≡ div_mod_of w }
-{
-    let n = w[15];
-    let d = w[14];
-    if U32_MAX < n {
-        return not_u32(n);
-    }
-    if U32_MAX < d {
-        return not_u32(d);
-    }
-    if d == 0 {
-        effect::refuse(InstructionError::DivisionByZero)
-    } else {
-        divided(n, d)
-    }
+    Ok(Effect::puts_u32(2, Few::of([q, r]), U32Calls::Two(less, whole)))
 }
 
 // How many digits are 1.
 fn ones(a: u32) -> u64
     ensures { result ≡ ones_of 32 a }
 {
-    u32::count_ones(a) as u64
+    u64::from(a.count_ones())
 }
 
-pub fn pop_count(w: [u64; 16]) -> Decided
-    ensures { decision_of result ≡ pop_count_of w }
+pub fn pop_count(w: &Top) -> Decided
+    ensures { decision_of result ≡ pop_count_of w.now.words }
 {
-    let a = w[15];
-    if U32_MAX < a {
-        return not_u32(a);
-    }
-    put1_u32(1, ones(a as u32), 28, a, 0)
+    let a = as_u32(w.st(0))?;
+    put(1, ones(a), 28, u64::from(a), 0)
 }

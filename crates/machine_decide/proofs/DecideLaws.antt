@@ -9,16 +9,12 @@ use borrow.Author.Tests.{ltb-true, ltb-false, eqb-true, eq-eqb, ne_eqb}
 use mathlib.Core.Logic.{inl, inr, ◌⊎◌}
 use lib.ListN.{length, get_or}
 use lib.Dec.{eqb, ltb}
-use Rattle.machine.specs.declared.state.VMState.{VMState}
 use Rattle.choices.specs.Choice.{cond}
 use Rattle.machine.specs.Instruction.{Row, Argument, words, place_of_stack, table, Decoded, known, unknown, decode_in, decode, argument_fault}
-use Rattle.machine.specs.Ram.{cells}
-use Rattle.machine.specs.Machine.{machine, code, memory, top_of, empty, entry, jump_top}
-use Rattle.machine_effects.specs.EffectView.{jump_top_of}
-use Rattle.machine_decide.specs.DecideView.{is_one, hashes, Handed, handed, Reliable, Shows, HandedHash, handed_hash, ReliableHash, ShowsHash, last_of, StandingPlain, StandingHash}
-use Rattle.machine.proofs.Words.{words_get_d}
-use Rattle.machine.proofs.OpStack.{top-words}
-use Rattle.machine.proofs.Rows.{argument-at}
+use Rattle.machine.specs.Machine.{Machine, ram}
+use Rattle.machine.specs.Sound.{Sound}
+use Rattle.machine_ram.specs.RamView.{Usable}
+use Rattle.machine_decide.specs.DecideView.{is_one, hashes}
 use Rattle.machine_isa.proofs.TableLaws.{OneOf, Rest}
 
 pub words_allowed : (n : ℕ) → argument_fault words n ≡ 0 → n ≤ 5
@@ -28,9 +24,6 @@ words_allowed n e = go (ltb n 1) (ltb 5 n) refl e
     go true t q h = absurd (omega arith)
     go false true q h = absurd (omega arith)
     go false false q h = ltb-false 5 n q
-
-pub words-few : (n : ℕ) → argument_fault words n ≡ 0 → n ≤ 10
-words-few n e = omega (arith, words_allowed n e)
 
 pub place_allowed : (n : ℕ) → argument_fault place_of_stack n ≡ 0 → n < 16
 place_allowed n e = go (ltb 15 n) refl e
@@ -93,57 +86,7 @@ unfolding hashes
 not_hashing op (((((((u, a), b), c), d), e), f), g) =
     rw (ne_eqb op 18 a, ne_eqb op 34 c, ne_eqb op 36 f, ne_eqb op 40 b, ne_eqb op 44 g, ne_eqb op 48 d, ne_eqb op 56 e)
 
--- ---- what a sound machine that stands on a slot shows
+-- ---- RAM of a sound machine
 
-jump_same : (from to : List ℕ) (n : ℕ) → cond (ltb 0 n) (entry (get_or from (n - 1) 0) (get_or to (n - 1) 0)) empty ≡ jump_top_of n (last_of from n) (last_of to n)
-unfolding last_of
-jump_same from to n = go (ltb 0 n) refl
-  where
-    go : (t : Bool) → ltb 0 n ≡ t → cond t (entry (get_or from (n - 1) 0) (get_or to (n - 1) 0)) empty ≡ cond t (entry (last_of from n) (last_of to n)) empty
-    go true e = let h : 0 < n = ltb-true 0 n e in let y : n ≡ 0 → ⊥ = λ z. absurd (omega arith) in rw (ne_eqb n 0 y)
-    go false e = refl
-
--- what an instruction without a trace is handed
-abbrev pub shown : VMState → List ℕ → List ℕ → List ℕ → List ℕ → List ℕ → List ℕ → List ℕ → List ℕ → List ℕ → Handed
-shown s o a u x w from to c v =
-    handed (get_or o s.pointer 0) (get_or a s.pointer 0) (top_of w s.depth) s.pointer o u s.publics x s.secrets
-    (jump_top_of s.jumps (last_of from s.jumps) (last_of to s.jumps)) (cells s.cells c v)
-
-pub plain-reliable : {s : VMState} {o a u x w from to c v : List ℕ} → StandingPlain s o a u x w from to c v → Reliable (shown s o a u x w from to c v)
-plain-reliable {s} {o} {a} h =
-    let m = h.sound in
-    record {
-      words = top-words s.depth m.op_stack.words;
-      inside = h.inside;
-      pointer = m.pointer;
-      public = m.publics;
-      secret = m.secrets;
-      usable = record { ordered = record { within = m.cells.used; ascending = m.cells.ascending }; values = omega (arith, m.cells.used, m.cells.pair) };
-      held_words = m.cells.values;
-      argument = words_get_d s.pointer m.code.arguments;
-      allowed = argument-at o a (length o) s.pointer h.inside m.code.allowed;
-      plain = h.plain;
-    }
-
-pub plain-shows : (s : VMState) (o a u x w from to c v digests output : List ℕ) → Shows (machine s (code o a u x digests) (memory w from to c v output)) (shown s o a u x w from to c v)
-unfolding jump_top
-plain-shows s o a u x w from to c v digests output =
-    record { top = refl; pointer = refl; opcodes = refl; public = refl; secret = refl; jump = jump_same from to s.jumps; cells = refl }
-
--- and one with a trace
-abbrev pub shown_hash : VMState → List ℕ → List ℕ → List ℕ → List ℕ → List ℕ → HandedHash
-shown_hash s o d w c v = handed_hash (get_or o s.pointer 0) (top_of w s.depth) s.sponge d s.digests (cells s.cells c v)
-
-pub hash-reliable : {s : VMState} {o d w c v : List ℕ} → StandingHash s o d w c v → ReliableHash (shown_hash s o d w c v)
-hash-reliable {s} h =
-    let m = h.sound in
-    record {
-      words = top-words s.depth m.op_stack.words;
-      digests = m.digests;
-      usable = record { ordered = record { within = m.cells.used; ascending = m.cells.ascending }; values = omega (arith, m.cells.used, m.cells.pair) };
-      hashing = h.hashing;
-    }
-
-pub hash-shows : (s : VMState) (o d w c v arguments public secret origins destinations output : List ℕ) →
-    ShowsHash (machine s (code o arguments public secret d) (memory w origins destinations c v output)) (shown_hash s o d w c v)
-hash-shows s o d w c v arguments public secret origins destinations output = record { top = refl; sponge = refl; digests = refl; cells = refl }
+pub sound-usable : (m : Machine) → Sound m → Usable (ram m)
+sound-usable m s = record { ordered = record { within = s.cells.used; ascending = s.cells.ascending }; values = omega (arith, s.cells.used, s.cells.pair) }

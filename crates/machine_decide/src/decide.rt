@@ -1,17 +1,22 @@
 // What the next instruction does: place C, behind place B.
-ghost use Rattle.std.specs.Prelude.{◌≡◌, ◌≤◌, length};
-ghost use Rattle.machine.specs.Ram.{cells};
-ghost use Rattle.machine_effects.specs.EffectView.{jump_top_of};
-ghost use Rattle.machine_decide.specs.DecideView.{handed, handed_hash, hashes as hashes_of, Reliable, ReliableHash, Acted, ActedHash, last_of, StandingPlain, DecidedPlain, StandingHash, DecidedHash};
+ghost use Rattle.std.specs.Prelude.{◌≡◌, true as yes, false as no};
+ghost use Rattle.machine.specs.Instruction.{decode};
+ghost use Rattle.machine.specs.Machine.{machine};
+ghost use Rattle.machine.specs.Lent.{code_of, seen};
+ghost use Rattle.machine.specs.Decide.{opcode_of, argument_of};
+ghost use Rattle.machine_effects.specs.EffectView.{decision_of};
+ghost use Rattle.machine_hashing.specs.HashedView.{hashed_of};
+ghost use Rattle.machine_decide.specs.DecideView.{hashes as hashes_of, act_in, StandsOn, Reliable, Acted, ActedHash};
 
+use crate::handed::{Handed, hand_over};
+use machine::lent::{LentCode, SeenMemory};
 use machine::refusal::{InstructionError, PlaceA};
 use machine::state::VMState;
 use machine_arithmetic::{arithmetic, bitwise};
-use machine_effects::effect::Decided;
-use machine_effects::{control, effect, input_output, memory, stack};
-use machine_hashing::hashing::Hashed;
+use machine_effects::effect::{Decided, Refused};
+use machine_effects::{control, input_output, memory, stack};
+use machine_hashing::hashing::HashDecided;
 use machine_hashing::{hashing, many_in_one};
-use machine_isa::op_stack::top;
 use tip5::sponge::Sponge;
 
 // Whether an instruction's effect carries a trace or changes the sponge.
@@ -25,171 +30,93 @@ pub fn hashes(opcode: u64) -> bool
 }
 
 // The instructions without a trace, in the order of the Rust.
-pub fn act(
-    opcode: u64,
-    argument: u64,
-    w: [u64; 16],
-    pointer: u64,
-    opcodes: &[u64],
-    public: &[u64],
-    publics: usize,
-    secret: &[u64],
-    secrets: usize,
-    jumps: usize,
-    origin: u64,
-    destination: u64,
-    addresses: &[u64],
-    values: &[u64],
-    count: usize,
-) -> Decided
-    requires { Reliable (handed opcode argument w pointer opcodes.now public.now publics secret.now secrets (jump_top_of jumps origin destination) (cells count addresses.now values.now)) }
-    ensures { Acted (handed opcode argument w pointer opcodes.now public.now publics secret.now secrets (jump_top_of jumps origin destination) (cells count addresses.now values.now)) result }
+pub fn act(h: &Handed<'_>) -> Decided
+    requires reliable { Reliable h.now }
+    requires plain { hashes_of h.now.opcode ≡ no }
+    ensures { Acted h.now result }
 {
+    let argument = h.argument;
     let n = argument as usize;
-    match opcode {
+    match h.opcode {
         3 => stack::pop(n),
         1 => stack::push(argument),
-        9 => stack::divine(n, secret, secrets),
-        17 => stack::pick(w, n),
-        25 => stack::place(w, n),
-        33 => stack::dup(w, n),
-        41 => stack::swap(w, n),
+        9 => input_output::divine(n, h.secret),
+        17 => stack::pick(&h.top, n),
+        25 => stack::place(&h.top, n),
+        33 => stack::dup(&h.top, n),
+        41 => stack::swap(&h.top, n),
         0 => control::halt(),
         8 => control::nop(),
-        2 => control::skiz(opcodes, pointer, w),
-        49 => control::call(pointer, argument),
-        16 => control::return_from_call(jumps, origin, destination),
-        24 => control::recurse(jumps, origin, destination),
-        32 => control::recurse_or_return(w, jumps, origin, destination),
-        10 => control::assert(w),
-        57 => memory::read_mem(addresses, values, count, w, n),
-        11 => memory::write_mem(w, n),
-        26 => hashing::assert_vector(w),
-        42 => arithmetic::add(w),
-        65 => arithmetic::addi(w, argument),
-        50 => arithmetic::mul(w),
-        64 => arithmetic::invert(w),
-        58 => arithmetic::eq(w),
-        4 => bitwise::split(w),
-        6 => bitwise::lt(w),
-        14 => bitwise::and(w),
-        22 => bitwise::xor(w),
-        12 => bitwise::log_2_floor(w),
-        30 => bitwise::pow(w),
-        20 => bitwise::div_mod(w),
-        28 => bitwise::pop_count(w),
-        66 => arithmetic::xx_add(w),
-        74 => arithmetic::xx_mul(w),
-        72 => arithmetic::x_invert(w),
-        82 => arithmetic::xb_mul(w),
-        73 => input_output::read_io(n, public, publics),
-        19 => input_output::write_io(w, n),
-        80 => many_in_one::xx_dot_step(addresses, values, count, w),
-        88 => many_in_one::xb_dot_step(addresses, values, count, w),
-        _ => effect::refuse(InstructionError::Handed(PlaceA::InvalidOpcode)),
+        2 => control::skiz(h.opcodes, h.pointer, &h.top),
+        49 => control::call(h.pointer, argument),
+        16 => control::return_from_call(h.jump),
+        24 => control::recurse(h.jump),
+        32 => control::recurse_or_return(&h.top, h.jump),
+        10 => control::assert(&h.top),
+        57 => memory::read_mem(&h.ram, &h.top, n),
+        11 => memory::write_mem(&h.top, n),
+        26 => hashing::assert_vector(&h.top),
+        42 => arithmetic::add(&h.top),
+        65 => arithmetic::addi(&h.top, argument),
+        50 => arithmetic::mul(&h.top),
+        64 => arithmetic::invert(&h.top),
+        58 => arithmetic::eq(&h.top),
+        4 => bitwise::split(&h.top),
+        6 => bitwise::lt(&h.top),
+        14 => bitwise::and(&h.top),
+        22 => bitwise::xor(&h.top),
+        12 => bitwise::log_2_floor(&h.top),
+        30 => bitwise::pow(&h.top),
+        20 => bitwise::div_mod(&h.top),
+        28 => bitwise::pop_count(&h.top),
+        66 => arithmetic::xx_add(&h.top),
+        74 => arithmetic::xx_mul(&h.top),
+        72 => arithmetic::x_invert(&h.top),
+        82 => arithmetic::xb_mul(&h.top),
+        73 => input_output::read_io(n, h.public),
+        19 => input_output::write_io(&h.top, n),
+        80 => many_in_one::xx_dot_step(&h.ram, &h.top),
+        88 => many_in_one::xb_dot_step(&h.ram, &h.top),
+        _ => Err(Refused::Kept(InstructionError::Handed(PlaceA::InvalidOpcode))),
     }
 }
 
 // The instructions with a trace, and sponge_init.
-pub fn act_hashing(
-    opcode: u64,
-    w: [u64; 16],
-    sponge: Sponge,
-    digests: &[u64],
-    taken: usize,
-    addresses: &[u64],
-    values: &[u64],
-    count: usize,
-) -> Hashed
-    requires { ReliableHash (handed_hash opcode w sponge digests.now taken (cells count addresses.now values.now)) }
-    ensures { ActedHash (handed_hash opcode w sponge digests.now taken (cells count addresses.now values.now)) result }
+pub fn act_hashing(h: &Handed<'_>, sponge: &Sponge) -> HashDecided
+    requires reliable { Reliable h.now }
+    requires hashing { hashes_of h.now.opcode ≡ yes }
+    ensures { ActedHash h.now sponge.now result }
 {
-    match opcode {
-        18 => hashing::hash(w),
+    match h.opcode {
+        18 => hashing::hash(&h.top),
         40 => hashing::sponge_init(),
-        34 => hashing::sponge_absorb(sponge, w),
-        48 => hashing::sponge_absorb_mem(sponge, addresses, values, count, w),
+        34 => hashing::sponge_absorb(sponge, &h.top),
+        48 => hashing::sponge_absorb_mem(sponge, &h.ram, &h.top),
         56 => hashing::sponge_squeeze(sponge),
-        36 => many_in_one::merkle_step(digests, taken, w),
-        44 => many_in_one::merkle_step_mem(addresses, values, count, w),
-        _ => hashing::refused(InstructionError::Handed(PlaceA::InvalidOpcode)),
+        36 => many_in_one::merkle_step(h.digests, &h.top),
+        44 => many_in_one::merkle_step_mem(&h.ram, &h.top),
+        _ => Err(Refused::Kept(InstructionError::Handed(PlaceA::InvalidOpcode))),
     }
 }
 
 // ---- the same of the machine that stands on a slot
 
-// The last of n words, or 0.
-pub fn last(s: &[u64], n: usize) -> u64
-    requires { n ≤ length s.now }
-    ensures { result ≡ last_of s.now n }
-{
-    if n == 0 { 0 } else { s[n - 1] }
-}
-
 // An instruction without a trace.
-pub fn plain(
-    state: VMState,
-    opcodes: &[u64],
-    arguments: &[u64],
-    public: &[u64],
-    secret: &[u64],
-    op_stack: &[u64],
-    origins: &[u64],
-    destinations: &[u64],
-    addresses: &[u64],
-    values: &[u64],
-) -> Decided
-    requires { StandingPlain state opcodes.now arguments.now public.now secret.now op_stack.now origins.now destinations.now addresses.now values.now }
-    ensures { DecidedPlain state opcodes.now arguments.now public.now secret.now op_stack.now origins.now destinations.now addresses.now values.now result }
+pub fn plain(state: &VMState, code: &LentCode<'_>, memory: &SeenMemory<'_>) -> Decided
+    requires on { StandsOn (machine state.now (code_of code.now) (seen memory.now)) }
+    requires plain { hashes_of (opcode_of (machine state.now (code_of code.now) (seen memory.now))) ≡ no }
+    ensures { decision_of result ≡ act_in (decode (opcode_of (machine state.now (code_of code.now) (seen memory.now)))) (argument_of (machine state.now (code_of code.now) (seen memory.now))) (machine state.now (code_of code.now) (seen memory.now)) }
 {
-    let pointer = state.pointer;
-    let at = pointer as usize;
-    let w = top(op_stack, state.depth);
-    let jumps = state.jumps;
-    let origin = last(origins, jumps);
-    let destination = last(destinations, jumps);
-    act(
-        opcodes[at],
-        arguments[at],
-        w,
-        pointer,
-        opcodes,
-        public,
-        state.publics,
-        secret,
-        state.secrets,
-        jumps,
-        origin,
-        destination,
-        addresses,
-        values,
-        state.cells,
-    )
+    let h = hand_over(state, code, memory);
+    act(&h)
 }
 
 // An instruction with a trace, or sponge_init.
-pub fn hashing(
-    state: VMState,
-    opcodes: &[u64],
-    digests: &[u64],
-    op_stack: &[u64],
-    addresses: &[u64],
-    values: &[u64],
-) -> Hashed
-    requires { StandingHash state opcodes.now digests.now op_stack.now addresses.now values.now }
-    ensures { DecidedHash state opcodes.now digests.now op_stack.now addresses.now values.now result }
+pub fn hashing(state: &VMState, code: &LentCode<'_>, memory: &SeenMemory<'_>) -> HashDecided
+    requires on { StandsOn (machine state.now (code_of code.now) (seen memory.now)) }
+    requires hashing { hashes_of (opcode_of (machine state.now (code_of code.now) (seen memory.now))) ≡ yes }
+    ensures { hashed_of result ≡ act_in (decode (opcode_of (machine state.now (code_of code.now) (seen memory.now)))) (argument_of (machine state.now (code_of code.now) (seen memory.now))) (machine state.now (code_of code.now) (seen memory.now)) }
 {
-    let at = state.pointer as usize;
-    let w = top(op_stack, state.depth);
-    let sponge = state.sponge;
-    act_hashing(
-        opcodes[at],
-        w,
-        sponge,
-        digests,
-        state.digests,
-        addresses,
-        values,
-        state.cells,
-    )
+    let h = hand_over(state, code, memory);
+    act_hashing(&h, &state.sponge)
 }

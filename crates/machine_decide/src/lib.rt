@@ -2,4 +2,5 @@
 #![tactic(auto)]
 
 pub mod decide;
+pub mod handed;
 pub mod place_b;

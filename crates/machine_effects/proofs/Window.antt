@@ -5,42 +5,39 @@ use Prim.Native.Nat.{ℕ, zero, suc, ◌+◌, ◌-◌, ◌≤◌, ◌<◌}
 use native.Mathlib.Omega.{arith}
 use native.Mathlib.Numerals.{add-one}
 use lib.ListN.{length, take, drop, get_or, set, length-append, length-take, length-drop, drop_of_length-le}
-use lib.Seq.{paste, take_at, take-take, take_all, take-suc, drop-cons, set_at}
+use lib.Seq.{take_all, take-suc, drop-cons, set_at}
+use Rattle.std.specs.List.{copy_within}
 use Rattle.machine.specs.Stack.{picked, placed}
 use Rattle.machine.specs.Hashing.{from_top}
 
--- the words from a place on, copied to the front of an array
-pub front-copied : (z s : List ℕ) (n k at : ℕ) → n ≤ k → at + n ≤ length s → take n (paste z 0 (take k (drop at s)) n) ≡ take n (drop at s)
-front-copied z s n k at h l =
-    let e : length (take n (drop at s)) ≡ n = simp (length-take, length-drop) (omega arith) in
-    rw (take-take n k (drop at s) h) (take_at (take n (drop at s)) _ n e)
-
 -- the words above ST i moved down by one, and ST i on top
-pub picked-is : (w : List ℕ) (i k : ℕ) → length w ≡ 16 → i < 16 → i ≤ k →
-    set (paste w (15 - i) (take k (drop (15 - i + 1) w)) i) 15 (get_or w (15 - i) 0) ≡ picked w i
+pub picked-is : (w : List ℕ) (i : ℕ) → length w ≡ 16 → i < 16 → set (copy_within w (15 - i + 1) 16 (15 - i)) 15 (get_or w (15 - i) 0) ≡ picked w i
 unfolding picked
-picked-is w i k l h m =
+picked-is w i l h =
+    let n : 16 - (15 - i + 1) ≡ i = omega arith in
     let d : drop 15 w ≡ get_or w 15 0 ∷ [] = drop-cons w 15 0 (omega arith) ∙ ap (λ (r : List ℕ). get_or w 15 0 ∷ r) (drop_of_length-le w {i = 16} (omega arith)) in
     let e : 15 - i + i ≡ 15 = omega arith in
     let f : 15 - i + 1 ≡ 16 - i = omega arith in
     let s : length (drop (16 - i) w) ≤ i = simp length-drop (omega arith) in
     let q : length (take (15 - i) w ++ drop (16 - i) w) ≡ 15 = simp (length-append, length-take, length-drop) (omega arith) in
-    rw (take-take i k (drop (15 - i + 1) w) m, e, f, take_all i (drop (16 - i) w) s, d) (set_at (take (15 - i) w ++ drop (16 - i) w) _ [] _ 15 q)
+    rw (n, e, f, take_all i (drop (16 - i) w) s, d) (set_at (take (15 - i) w ++ drop (16 - i) w) _ [] _ 15 q)
 
 -- the words from ST i up moved up by one, and ST 0 below them
-pub placed-is : (w : List ℕ) (i k : ℕ) → length w ≡ 16 → i < 16 → i ≤ k →
-    set (paste w (15 - i + 1) (take k (drop (15 - i) w)) i) (15 - i) (get_or w 15 0) ≡ placed w i
+pub placed-is : (w : List ℕ) (i : ℕ) → length w ≡ 16 → i < 16 → set (copy_within w (15 - i) 15 (15 - i + 1)) (15 - i) (get_or w 15 0) ≡ placed w i
 unfolding placed
-placed-is w i k l h m =
+placed-is w i l h =
+    let n : 15 - (15 - i) ≡ i = omega arith in
     let e : 15 - i + 1 + i ≡ 16 = omega arith in
     let z : drop 16 w ≡ [] = drop_of_length-le w {i = 16} (omega arith) in
     let t : take (15 - i + 1) w ≡ take (15 - i) w ++ (get_or w (15 - i) 0 ∷ []) = rw add-one (take-suc w (15 - i) 0 (omega arith)) in
     let q : length (take (15 - i) w) ≡ 15 - i = simp length-take (omega arith) in
-    rw (take-take i k (drop (15 - i) w) m, e, z, append-nil, t, append_assoc) (set_at (take (15 - i) w) _ _ _ (15 - i) q)
+    rw (n, e, z, append-nil, t, append_assoc) (set_at (take (15 - i) w) _ _ _ (15 - i) q)
 
 -- the top five words in an array, the top first
-pub top_five : (w : List ℕ) (n : ℕ) → n ≤ 5 →
-    take n (get_or w 15 0 ∷ get_or w 14 0 ∷ get_or w 13 0 ∷ get_or w 12 0 ∷ get_or w 11 0 ∷ []) ≡ from_top w 0 n
+abbrev pub five_of : List ℕ → List ℕ
+five_of w = get_or w 15 0 ∷ get_or w 14 0 ∷ get_or w 13 0 ∷ get_or w 12 0 ∷ get_or w 11 0 ∷ []
+
+pub top_five : (w : List ℕ) (n : ℕ) → n ≤ 5 → take n (five_of w) ≡ from_top w 0 n
 unfolding from_top
 top_five w zero h = refl
 top_five w (suc zero) h = refl

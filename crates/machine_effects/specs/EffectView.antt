@@ -1,96 +1,85 @@
--- Which effect the code's arrays and counts stand for.
-use Rattle.std.specs.Prelude.{ℕ, zero, suc, ◌+◌, Bool, true, false, List, [], ◌∷◌, ◌++◌, get_or, take, replicate, ltb}
-use Rattle.machine_effects.specs.declared.effect.Effect.{Effect as Arrays}
+-- Which effect the code's stands for.
+use Rattle.std.specs.Prelude.{◌≡◌, ℕ, ◌<◌, ◌≤◌, List, [], ◌∷◌, ◌++◌, length, map, take, Result, Ok, Err, Option, Some, None}
+use Rattle.machine_isa.specs.declared.few.Few.{Few}
+use Rattle.machine_isa.specs.FewWords.{words_of}
+use Rattle.machine_effects.specs.declared.effect.Effect.{Effect as CodeEffect}
+use Rattle.machine_effects.specs.declared.effect.Next.{Next as CodeNext}
+use Rattle.machine_effects.specs.declared.effect.Next.TheVariants.{Onward, To}
+use Rattle.machine_effects.specs.declared.effect.JumpEntry.{JumpEntry}
+use Rattle.machine_effects.specs.declared.effect.JumpChange.{JumpChange as CodeJump}
+use Rattle.machine_effects.specs.declared.effect.JumpChange.TheVariants.{Stays, Pushes, Pops}
 use Rattle.machine_effects.specs.declared.effect.U32Call.{U32Call}
-use Rattle.machine_effects.specs.declared.effect.Decided.{Decided}
-use Rattle.machine_effects.specs.declared.effect.Verdict.{Verdict}
-use Rattle.machine_effects.specs.declared.effect.Verdict.TheVariants.{Acts, Refuses, Drops}
-use Rattle.choices.specs.Choice.{cond}
+use Rattle.machine_effects.specs.declared.effect.U32Calls.{U32Calls}
+use Rattle.machine_effects.specs.declared.effect.U32Calls.TheVariants.{Zero, One, Two}
+use Rattle.machine_effects.specs.declared.effect.Direction.{Direction}
+use Rattle.machine_effects.specs.declared.effect.Direction.TheVariants.{Read, Write}
+use Rattle.machine_effects.specs.declared.effect.Access.{Access}
+use Rattle.machine_effects.specs.declared.effect.Accesses.{Accesses}
+use Rattle.machine_effects.specs.declared.effect.Refused.{Refused}
+use Rattle.machine_effects.specs.declared.effect.Refused.TheVariants.{Kept, Dropped}
 use Rattle.machine.specs.Refusal.{refusal_of}
 use Rattle.machine.specs.Machine.{JumpTop, empty, entry}
 use Rattle.machine.specs.Effect.{Call, u32, ram_read, ram_write, Next, onward, to, JumpChange, stays, pushes, pops, keeps, Effect, Decision, acts, refuses, drops}
 
-abbrev pub no_u32 : U32Call
-no_u32 = record { opcode = 0; left = 0; right = 0 }
+abbrev pub next_of : CodeNext → Next
+next_of Onward = onward
+next_of (To a) = to a
 
--- what changes nothing but pointer and clock
-abbrev pub no_arrays : Arrays
-no_arrays =
-    record {
-      pops = 0;
-      count = 0;
-      words = replicate 16 0;
-      jumps = false;
-      target = 0;
-      halts = false;
-      calls = false;
-      origin = 0;
-      returns = false;
-      publics = 0;
-      secrets = 0;
-      digests = 0;
-      outputs = 0;
-      output = replicate 5 0;
-      u32s = 0;
-      u32_0 = no_u32;
-      u32_1 = no_u32;
-      reads = 0;
-      writes = 0;
-      addresses = replicate 10 0;
-      values = replicate 10 0;
-    }
+abbrev pub jump_of : CodeJump → JumpChange
+jump_of Stays = stays
+jump_of (Pushes e) = pushes e.origin e.destination
+jump_of Pops = pops
 
-abbrev pub next_of : Arrays → Next
-next_of e = cond e.jumps (to e.target) onward
+abbrev pub u32_of : U32Call → Call
+u32_of c = u32 c.opcode c.left c.right
 
-abbrev pub jump_of : Arrays → JumpChange
-jump_of e = cond e.calls (pushes e.origin e.target) (cond e.returns pops stays)
+abbrev pub u32s_of : U32Calls → List Call
+u32s_of Zero = []
+u32s_of (One a) = u32_of a ∷ []
+u32s_of (Two a b) = u32_of a ∷ u32_of b ∷ []
 
--- the first n of two calls
-unfoldable pub u32s_of : ℕ → U32Call → U32Call → List Call
-u32s_of zero a b = []
-u32s_of (suc zero) a b = u32 a.opcode a.left a.right ∷ []
-u32s_of (suc (suc n)) a b = u32 a.opcode a.left a.right ∷ u32 b.opcode b.left b.right ∷ []
+abbrev pub access_of : Direction → Access → Call
+access_of Read a = ram_read a.address a.value
+access_of Write a = ram_write a.address a.value
 
--- the n accesses from place i on
-unfoldable pub accesses_from : (ℕ → ℕ → Call) → List ℕ → List ℕ → ℕ → ℕ → List Call
-accesses_from f a v i zero = []
-accesses_from f a v i (suc n) = f (get_or a i 0) (get_or v i 0) ∷ accesses_from f a v (i + 1) n
+-- the first n of a list
+unfoldable pub first_accesses : Direction → List Access → ℕ → List Call
+first_accesses d s n = map (access_of d) (take n s)
 
-abbrev pub reads_from : List ℕ → List ℕ → ℕ → ℕ → List Call
-reads_from = accesses_from ram_read
+abbrev pub accesses_of : Accesses → List Call
+accesses_of a = first_accesses a.direction a.cells a.count
 
-abbrev pub writes_from : List ℕ → List ℕ → ℕ → ℕ → List Call
-writes_from = accesses_from ram_write
+abbrev pub calls_of : CodeEffect → List Call
+calls_of e = u32s_of e.u32s ++ accesses_of e.accesses
 
-abbrev pub calls_of : Arrays → List Call
-calls_of e = u32s_of e.u32s e.u32_0 e.u32_1 ++ reads_from e.addresses e.values 0 e.reads ++ writes_from e.addresses e.values e.reads e.writes
-
-unfoldable pub effect_of : Arrays → Effect
+unfoldable pub effect_of : CodeEffect → Effect
 effect_of e =
     record {
       pops = e.pops;
-      words = take e.count e.words;
-      next = next_of e;
+      words = words_of e.words;
+      next = next_of e.next;
       halts = e.halts;
-      jump = jump_of e;
+      jump = jump_of e.jump;
       publics = e.publics;
       secrets = e.secrets;
       digests = e.digests;
-      output = take e.outputs e.output;
+      output = words_of e.output;
       sponge = keeps;
       calls = calls_of e;
     }
 
-abbrev pub verdict_of : Verdict → Effect → Decision
-verdict_of Acts e = acts e
-verdict_of (Refuses r) e = refuses (refusal_of r)
-verdict_of (Drops r) e = drops (refusal_of r)
-
-unfoldable pub decision_of : Decided → Decision
+unfoldable pub decision_of : Result CodeEffect Refused → Decision
 unfolding effect_of
-decision_of d = verdict_of d.verdict (effect_of d.effect)
+decision_of (Ok e) = acts (effect_of e)
+decision_of (Err (Kept r)) = refuses (refusal_of r)
+decision_of (Err (Dropped r)) = drops (refusal_of r)
 
--- the top of a jump stack with so many entries, the last of them this
-abbrev pub jump_top_of : ℕ → ℕ → ℕ → JumpTop
-jump_top_of jumps origin destination = cond (ltb 0 jumps) (entry origin destination) empty
+-- the top of a jump stack
+abbrev pub jump_top_of : Option JumpEntry → JumpTop
+jump_top_of (Some e) = entry e.origin e.destination
+jump_top_of None = empty
+
+-- the first n words of what is left of an input, where there are so many
+abbrev pub Taken : List ℕ → ℕ → Option (Few 16) → Type 0
+Taken left n (Some w) = (n ≤ length left) × (words_of w ≡ take n left)
+Taken left n None = length left < n

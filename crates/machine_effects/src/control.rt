@@ -1,43 +1,43 @@
-// The instructions that say what comes next. w is the top sixteen words, bottom first: ST i is w[15 - i].
+// The instructions that say what comes next.
 ghost use Rattle.std.specs.Prelude.{◌≡◌, ◌<◌, length};
 ghost use Rattle.field.specs.Base.{p};
 ghost use Rattle.machine_effects.specs.EffectView.{decision_of, jump_top_of};
 ghost use Rattle.machine.specs.Control.{halt_of, nop_of, skiz_of, call_of, return_of, recurse_of, recurse_or_return_of, assert_of};
 
-use crate::effect;
-use crate::effect::Decided;
+use crate::effect::{Decided, Effect, JumpChange, JumpEntry, Next, Refused};
 use machine::refusal::InstructionError;
 use machine_isa::instruction;
+use machine_isa::op_stack::Top;
 
 pub fn halt() -> Decided
     ensures { decision_of result ≡ halt_of }
 {
-    let mut e = effect::nothing();
-    e.halts = true;
-    effect::act(e)
+    Ok(Effect {
+        halts: true,
+        ..Effect::takes_off(0)
+    })
 }
 
 pub fn nop() -> Decided
     ensures { decision_of result ≡ nop_of }
 {
-    effect::take_off(0)
+    Ok(Effect::takes_off(0))
 }
 
 // On 0 the instruction in the next slot is skipped. Where there is no such slot the word stays dropped.
-pub fn skiz(opcodes: &[u64], pointer: u64, w: [u64; 16]) -> Decided
+pub fn skiz(opcodes: &[u64], pointer: u64, w: &Top) -> Decided
     requires { pointer < length opcodes.now }
-    ensures { decision_of result ≡ skiz_of opcodes.now pointer w }
+    ensures { decision_of result ≡ skiz_of opcodes.now pointer w.now.words }
 {
-    if w[15] == 0 {
-        let next = pointer + 1;
-        let at = next as usize;
-        if at < opcodes.len() {
-            effect::go_to(1, next + instruction::size(opcodes[at]))
-        } else {
-            effect::drop_and_refuse(InstructionError::InstructionPointerOverflow)
-        }
+    if w.st(0) != 0 {
+        return Ok(Effect::takes_off(1));
+    }
+    let next = pointer + 1;
+    let at = next as usize;
+    if at < opcodes.len() {
+        Ok(Effect::goes(1, next + instruction::size(opcodes[at])))
     } else {
-        effect::take_off(1)
+        Err(Refused::Dropped(InstructionError::InstructionPointerOverflow))
     }
 }
 
@@ -45,47 +45,51 @@ pub fn call(pointer: u64, destination: u64) -> Decided
     requires { pointer < p }
     ensures { decision_of result ≡ call_of pointer destination }
 {
-    effect::call_to(pointer + 2, destination)
+    let entry = JumpEntry {
+        origin: pointer + 2,
+        destination,
+    };
+    Ok(Effect {
+        jump: JumpChange::Pushes(entry),
+        ..Effect::goes(0, destination)
+    })
 }
 
-// The jump stack has so many entries; the last of them is origin and destination.
-pub fn return_from_call(jumps: usize, origin: u64, destination: u64) -> Decided
-    ensures { decision_of result ≡ return_of (jump_top_of jumps origin destination) }
+// `top` is the jump stack's last entry.
+pub fn return_from_call(top: Option<JumpEntry>) -> Decided
+    ensures { decision_of result ≡ return_of (jump_top_of top) }
 {
-    if 0 < jumps {
-        effect::return_to(origin)
+    let entry = top.ok_or(InstructionError::JumpStackIsEmpty)?;
+    Ok(Effect {
+        jump: JumpChange::Pops,
+        ..Effect::goes(0, entry.origin)
+    })
+}
+
+pub fn recurse(top: Option<JumpEntry>) -> Decided
+    ensures { decision_of result ≡ recurse_of (jump_top_of top) }
+{
+    let entry = top.ok_or(InstructionError::JumpStackIsEmpty)?;
+    Ok(Effect::goes(0, entry.destination))
+}
+
+pub fn recurse_or_return(w: &Top, top: Option<JumpEntry>) -> Decided
+    ensures { decision_of result ≡ recurse_or_return_of w.now.words (jump_top_of top) }
+{
+    if w.st(5) == w.st(6) {
+        return_from_call(top)
     } else {
-        effect::refuse(InstructionError::JumpStackIsEmpty)
+        recurse(top)
     }
 }
 
-pub fn recurse(jumps: usize, origin: u64, destination: u64) -> Decided
-    ensures { decision_of result ≡ recurse_of (jump_top_of jumps origin destination) }
+pub fn assert(w: &Top) -> Decided
+    ensures { decision_of result ≡ assert_of w.now.words }
 {
-    if 0 < jumps {
-        effect::go_to(0, destination)
-    } else {
-        effect::refuse(InstructionError::JumpStackIsEmpty)
-    }
-}
-
-pub fn recurse_or_return(w: [u64; 16], jumps: usize, origin: u64, destination: u64) -> Decided
-    ensures { decision_of result ≡ recurse_or_return_of w (jump_top_of jumps origin destination) }
-{
-    if w[10] == w[9] {
-        return_from_call(jumps, origin, destination)
-    } else {
-        recurse(jumps, origin, destination)
-    }
-}
-
-pub fn assert(w: [u64; 16]) -> Decided
-    ensures { decision_of result ≡ assert_of w }
-{
-    let a = w[15];
+    let a = w.st(0);
     if a == 1 {
-        effect::take_off(1)
+        Ok(Effect::takes_off(1))
     } else {
-        effect::refuse(InstructionError::AssertionFailed(a))
+        Err(InstructionError::AssertionFailed(a).into())
     }
 }

@@ -1,291 +1,210 @@
-// What an instruction does, with arrays and counts; specs/EffectView.antt says which effect it stands for.
-ghost use Rattle.std.specs.Prelude.{◌≡◌, [] as Nil, ◌∷◌, ◌++◌, ◌+◌, ◌≤◌, length, take, drop};
-ghost use Rattle.machine.specs.Effect.{acts, refuses, drops, puts as putting, recording, writing, goes, to, stays, pushes, pops as popped};
-ghost use Rattle.machine_effects.specs.EffectView.{no_arrays, decision_of, effect_of, u32s_of, reads_from, writes_from};
-ghost use Rattle.machine.specs.Refusal.{refusal_of};
-ghost use Rattle.machine.specs.Stack.{divined};
-ghost use Rattle.machine.specs.InputOutput.{taken};
+// What an instruction does; specs/EffectView.antt says which effect it stands for.
+ghost use Rattle.std.specs.Prelude.{◌≤◌, length};
 
 use machine::refusal::InstructionError;
-use tip5::words::copy;
+use machine_isa::few::Few;
 
 #[derive(Clone, Copy)]
 pub struct Effect {
     // How many words it takes off the op stack, and which it puts on, the first lowest.
     pub pops: usize,
-    pub count: usize,
-    pub words: [u64; 16],
-    // Whether it goes to `target`; else on by the instruction's size.
-    pub jumps: bool,
-    pub target: u64,
+    pub words: Few<16>,
+    pub next: Next,
     pub halts: bool,
-    // Whether it pushes origin and target on the jump stack, or pops it.
-    pub calls: bool,
-    pub origin: u64,
-    pub returns: bool,
+    pub jump: JumpChange,
     // How much it takes from each input.
     pub publics: usize,
     pub secrets: usize,
     pub digests: usize,
     // What it puts out.
-    pub outputs: usize,
-    pub output: [u64; 5],
-    // Its calls: at most two of the U32 table, then RAM reads, then RAM writes.
-    pub u32s: usize,
-    pub u32_0: U32Call,
-    pub u32_1: U32Call,
-    pub reads: usize,
-    pub writes: usize,
-    pub addresses: [u64; 10],
-    pub values: [u64; 10],
+    pub output: Few<5>,
+    // Its calls: of the U32 table, then of RAM.
+    pub u32s: U32Calls,
+    pub accesses: Accesses,
 }
 
-#[derive(Clone, Copy)]
+// Where the pointer goes: up by the instruction's size, or to a place.
+#[derive(Clone, Copy, PartialEq, Eq, Debug)]
+pub enum Next {
+    Onward,
+    To(u64),
+}
+
+// An entry of the jump stack.
+#[derive(Clone, Copy, PartialEq, Eq, Debug)]
+pub struct JumpEntry {
+    pub origin: u64,
+    pub destination: u64,
+}
+
+#[derive(Clone, Copy, PartialEq, Eq, Debug)]
+pub enum JumpChange {
+    Stays,
+    Pushes(JumpEntry),
+    Pops,
+}
+
+#[derive(Clone, Copy, PartialEq, Eq, Debug)]
 pub struct U32Call {
     pub opcode: u64,
     pub left: u64,
     pub right: u64,
 }
 
+#[derive(Clone, Copy, PartialEq, Eq, Debug)]
+pub enum U32Calls {
+    Zero,
+    One(U32Call),
+    Two(U32Call, U32Call),
+}
+
+#[derive(Clone, Copy, PartialEq, Eq, Debug)]
+pub enum Direction {
+    Read,
+    Write,
+}
+
+#[derive(Clone, Copy, PartialEq, Eq, Debug)]
+pub struct Access {
+    pub address: u64,
+    pub value: u64,
+}
+
+// At most ten accesses of RAM in one direction: the first `count` of an array.
 #[derive(Clone, Copy)]
-pub enum Verdict {
-    Acts,
-    Refuses(InstructionError),
-    // Refused, and the top word of the op stack is dropped.
-    Drops(InstructionError),
+pub struct Accesses {
+    pub direction: Direction,
+    pub cells: [Access; 10],
+    pub count: usize,
+    pub ghost fits: { count ≤ length cells },
 }
 
+// Why an instruction is turned down. Everything stays, or the top word of the op stack is dropped.
 #[derive(Clone, Copy)]
-pub struct Decided {
-    pub verdict: Verdict,
-    pub effect: Effect,
+pub enum Refused {
+    Kept(InstructionError),
+    Dropped(InstructionError),
 }
 
-// An effect that changes nothing but pointer and clock.
-pub fn nothing() -> Effect
-    ensures { result ≡ no_arrays }
-{
-    let none = U32Call {
-        opcode: 0,
-        left: 0,
-        right: 0,
-    };
-    Effect {
-        pops: 0,
-        count: 0,
-        words: [0u64; 16],
-        jumps: false,
-        target: 0,
-        halts: false,
-        calls: false,
-        origin: 0,
-        returns: false,
-        publics: 0,
-        secrets: 0,
-        digests: 0,
-        outputs: 0,
-        output: [0u64; 5],
-        u32s: 0,
-        u32_0: none,
-        u32_1: none,
-        reads: 0,
-        writes: 0,
-        addresses: [0u64; 10],
-        values: [0u64; 10],
+pub type Decided = Result<Effect, Refused>;
+
+impl From<InstructionError> for Refused {
+    ghost use Rattle.std.specs.Prelude.{◌≡◌};
+    ghost use Rattle.machine_effects.specs.declared.effect.Refused.TheVariants.{Kept};
+
+    ghost from_gives = { λ e r. r ≡ Kept e };
+
+    fn from(error: InstructionError) -> Refused {
+        Refused::Kept(error)
     }
 }
 
-pub fn act(effect: Effect) -> Decided
-    ensures { decision_of result ≡ acts (effect_of effect) }
-{
-    Decided {
-        verdict: Verdict::Acts,
-        effect: effect,
+impl Access {
+    ghost use Rattle.std.specs.Prelude.{◌≡◌};
+
+    pub fn new(address: u64, value: u64) -> Self
+        ensures { result ≡ record { address = address; value = value } }
+    {
+        Access { address, value }
     }
 }
 
-pub fn refuse(error: InstructionError) -> Decided
-    ensures { decision_of result ≡ refuses (refusal_of error) }
-{
-    Decided {
-        verdict: Verdict::Refuses(error),
-        effect: nothing(),
+impl Accesses {
+    ghost use Rattle.std.specs.Prelude.{◌≡◌, [] as Nil, map};
+    ghost use Rattle.machine_effects.specs.EffectView.{accesses_of, access_of};
+
+    #[tactic(auto, unfolding(crate::specs::EffectView::first_accesses))]
+    pub fn none() -> Self
+        ensures { accesses_of result ≡ Nil }
+    {
+        Accesses {
+            direction: Direction::Read,
+            cells: [Access {
+                address: 0,
+                value: 0,
+            }; 10],
+            count: 0,
+        }
+    }
+
+    #[tactic(auto, unfolding(crate::specs::EffectView::first_accesses))]
+    pub fn of<const K: usize>(direction: Direction, accesses: [Access; K]) -> Self
+        requires { K ≤ 10 }
+        ensures { accesses_of result ≡ map (access_of direction) accesses.entry }
+    {
+        let mut cells = [Access {
+            address: 0,
+            value: 0,
+        }; 10];
+        cells[..K].copy_from_slice(&accesses);
+        Accesses {
+            direction,
+            cells,
+            count: K,
+        }
     }
 }
 
-pub fn drop_and_refuse(error: InstructionError) -> Decided
-    ensures { decision_of result ≡ drops (refusal_of error) }
-{
-    Decided {
-        verdict: Verdict::Drops(error),
-        effect: nothing(),
+impl Effect {
+    ghost use Rattle.std.specs.Prelude.{◌≡◌, [] as Nil, ◌++◌};
+    ghost use Rattle.machine.specs.Effect.{puts, recording, goes, to, stays};
+    ghost use Rattle.machine_isa.specs.FewWords.{words_of};
+    ghost use Rattle.machine_effects.specs.EffectView.{effect_of, accesses_of, u32s_of};
+
+    // Takes words off and puts words on, with these calls; all else as it was.
+    pub fn recording(pops: usize, words: Few<16>, u32s: U32Calls, accesses: Accesses) -> Self
+        ensures { effect_of result ≡ recording (u32s_of u32s ++ accesses_of accesses) pops (words_of words) }
+    {
+        Effect {
+            pops,
+            words,
+            next: Next::Onward,
+            halts: false,
+            jump: JumpChange::Stays,
+            publics: 0,
+            secrets: 0,
+            digests: 0,
+            output: Few::none(),
+            u32s,
+            accesses,
+        }
     }
-}
 
-// Takes words off and puts `count` of `words` on; all else as it was.
-pub fn puts(pops: usize, count: usize, words: [u64; 16]) -> Decided
-    ensures { decision_of result ≡ acts (putting pops (take count words)) }
-{
-    let mut e = nothing();
-    e.pops = pops;
-    e.count = count;
-    e.words = words;
-    act(e)
-}
+    // With no call.
+    pub fn puts(pops: usize, words: Few<16>) -> Self
+        ensures { effect_of result ≡ puts pops (words_of words) }
+    {
+        Effect::recording(pops, words, U32Calls::Zero, Accesses::none())
+    }
 
-pub fn put1(pops: usize, a: u64) -> Decided
-    ensures { decision_of result ≡ acts (putting pops (a ∷ Nil)) }
-{
-    let mut words = [0u64; 16];
-    words[0] = a;
-    puts(pops, 1, words)
-}
+    // Takes words off; all else as it was.
+    pub fn takes_off(pops: usize) -> Self
+        ensures { effect_of result ≡ puts pops Nil }
+    {
+        Effect::puts(pops, Few::none())
+    }
 
-pub fn put3(pops: usize, a: u64, b: u64, c: u64) -> Decided
-    ensures { decision_of result ≡ acts (putting pops (a ∷ b ∷ c ∷ Nil)) }
-{
-    let mut words = [0u64; 16];
-    words[0] = a;
-    words[1] = b;
-    words[2] = c;
-    puts(pops, 3, words)
-}
+    // With calls of the U32 table.
+    pub fn puts_u32(pops: usize, words: Few<16>, u32s: U32Calls) -> Self
+        ensures { effect_of result ≡ recording (u32s_of u32s) pops (words_of words) }
+    {
+        Effect::recording(pops, words, u32s, Accesses::none())
+    }
 
-// The same with calls of the U32 table, of which there are two or less.
-pub fn puts_u32(
-    pops: usize,
-    count: usize,
-    words: [u64; 16],
-    u32s: usize,
-    first: U32Call,
-    second: U32Call,
-) -> Decided
-    ensures { decision_of result ≡ acts (recording (u32s_of u32s first second) pops (take count words)) }
-{
-    let mut e = nothing();
-    e.pops = pops;
-    e.count = count;
-    e.words = words;
-    e.u32s = u32s;
-    e.u32_0 = first;
-    e.u32_1 = second;
-    act(e)
-}
+    // With accesses of RAM.
+    pub fn puts_ram(pops: usize, words: Few<16>, accesses: Accesses) -> Self
+        ensures { effect_of result ≡ recording (accesses_of accesses) pops (words_of words) }
+    {
+        Effect::recording(pops, words, U32Calls::Zero, accesses)
+    }
 
-// The same with reads and writes of RAM.
-pub fn puts_ram(
-    pops: usize,
-    count: usize,
-    words: [u64; 16],
-    reads: usize,
-    writes: usize,
-    addresses: [u64; 10],
-    values: [u64; 10],
-) -> Decided
-    ensures { decision_of result ≡ acts (recording (reads_from addresses values 0 reads ++ writes_from addresses values reads writes) pops (take count words)) }
-{
-    let mut e = nothing();
-    e.pops = pops;
-    e.count = count;
-    e.words = words;
-    e.reads = reads;
-    e.writes = writes;
-    e.addresses = addresses;
-    e.values = values;
-    act(e)
-}
-
-// All sixteen words on top change.
-pub fn put16(words: [u64; 16]) -> Decided
-    ensures { decision_of result ≡ acts (putting 16 words) }
-{
-    puts(16, 16, words)
-}
-
-// Takes n words off; all else as it was.
-pub fn take_off(n: usize) -> Decided
-    ensures { decision_of result ≡ acts (putting n Nil) }
-{
-    puts(n, 0, [0u64; 16])
-}
-
-// ---- inputs and output
-
-// The n words of s from place at on, and zeros behind them.
-pub fn words_from(s: &[u64], at: usize, n: usize) -> [u64; 16]
-    requires { (at + n ≤ length s.now) × (n ≤ 16) }
-    ensures { take n result ≡ take n (drop at s.now) }
-{
-    let mut words = [0u64; 16];
-    copy(&mut words, 0, &s[at..], n);
-    words
-}
-
-// Puts n words on that are taken from the public input.
-pub fn take_public(n: usize, words: [u64; 16]) -> Decided
-    ensures { decision_of result ≡ acts (taken n words) }
-{
-    let mut e = nothing();
-    e.count = n;
-    e.words = words;
-    e.publics = n;
-    act(e)
-}
-
-// Puts n words on that are taken from the secret input.
-pub fn take_secret(n: usize, words: [u64; 16]) -> Decided
-    ensures { decision_of result ≡ acts (divined n words) }
-{
-    let mut e = nothing();
-    e.count = n;
-    e.words = words;
-    e.secrets = n;
-    act(e)
-}
-
-// Takes n words off and puts n words out.
-pub fn put_out(n: usize, output: [u64; 5]) -> Decided
-    ensures { decision_of result ≡ acts (writing n (take n output)) }
-{
-    let mut e = nothing();
-    e.pops = n;
-    e.outputs = n;
-    e.output = output;
-    act(e)
-}
-
-// ---- pointer and jump stack
-
-// Takes n words off and goes to target.
-pub fn go_to(n: usize, target: u64) -> Decided
-    ensures { decision_of result ≡ acts (goes n (to target) stays) }
-{
-    let mut e = nothing();
-    e.pops = n;
-    e.jumps = true;
-    e.target = target;
-    act(e)
-}
-
-// Goes to target with origin and target on the jump stack.
-pub fn call_to(origin: u64, target: u64) -> Decided
-    ensures { decision_of result ≡ acts (goes 0 (to target) (pushes origin target)) }
-{
-    let mut e = nothing();
-    e.jumps = true;
-    e.target = target;
-    e.calls = true;
-    e.origin = origin;
-    act(e)
-}
-
-// Goes back to origin, off the jump stack.
-pub fn return_to(origin: u64) -> Decided
-    ensures { decision_of result ≡ acts (goes 0 (to origin) popped) }
-{
-    let mut e = nothing();
-    e.jumps = true;
-    e.target = origin;
-    e.returns = true;
-    act(e)
+    // Takes words off and goes to a place.
+    pub fn goes(pops: usize, target: u64) -> Self
+        ensures { effect_of result ≡ goes pops (to target) stays }
+    {
+        Effect {
+            next: Next::To(target),
+            ..Effect::takes_off(pops)
+        }
+    }
 }

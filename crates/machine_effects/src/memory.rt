@@ -1,126 +1,108 @@
 // The instructions that read and write RAM. Addresses go on modulo P.
 ghost use Rattle.std.specs.Prelude.{◌≡◌, ◌≤◌, ◌<◌};
-ghost use Rattle.machine.specs.Words.{Words};
-ghost use Rattle.machine.specs.Ram.{cells};
-ghost use Rattle.machine_effects.specs.EffectView.{decision_of};
-ghost use Rattle.machine.specs.Memory.{read_mem_of, write_mem_of};
 ghost use Rattle.field.specs.Base.{p};
+ghost use Rattle.machine.specs.Words.{Words};
 ghost use Rattle.machine.specs.Machine.{st};
-ghost use Rattle.machine_effects.specs.MemoryView.{Cells10, ReadDown, ReadUp, Written};
+ghost use Rattle.machine.specs.Memory.{read_mem_of, write_mem_of};
+ghost use Rattle.machine_ram.specs.LentCells.{cells_of};
+ghost use Rattle.machine_effects.specs.EffectView.{decision_of};
+ghost use Rattle.machine_effects.specs.MemoryView.{ReadBy, Written};
 
-use crate::effect;
-use crate::effect::Decided;
+use crate::effect::{Access, Accesses, Decided, Direction, Effect};
 use field::base;
-use machine_ram::near;
+use machine_isa::few::Few;
+use machine_isa::op_stack::Top;
+use machine_ram::ram::Ram;
 
-// Accesses in a row: addresses and values, the values once more as words to put on, and the address behind the last.
+// From one address to the next, up or down.
+pub const UP: u64 = 1;
+
+pub const DOWN: u64 = base::P - 1;
+
+// What stands behind the accesses of a row.
+const NO_ACCESS: Access = Access {
+    address: 0,
+    value: 0,
+};
+
+// Accesses in a row, their values once more as words to put on, and the address behind the last.
 #[derive(Clone, Copy)]
-pub struct Accesses {
-    pub addresses: [u64; 10],
-    pub values: [u64; 10],
+pub struct Row {
+    pub accesses: Accesses,
     pub words: [u64; 16],
     pub next: u64,
 }
 
-// The n words at start, start + 1, .., each looked for beside the one before.
-pub fn read_up(addresses: &[u64], values: &[u64], count: usize, start: u64, n: usize) -> Accesses
-    requires { Cells10 (cells count addresses.now values.now) start n }
-    ensures { ReadUp (cells count addresses.now values.now) start n result }
+// Reads the n words at start, start + step, .., each looked for beside the one before.
+pub fn read_row(ram: &Ram<'_>, start: u64, step: u64, n: usize) -> Row
+    requires { (start < p) × (step < p) × (n ≤ 10) }
+    ensures { ReadBy step (cells_of ram.now) start n result }
 {
-    let mut at = [0u64; 10];
-    let mut held = [0u64; 10];
-    let mut words = [0u64; 16];
-    let mut x = start;
+    let mut cells = [NO_ACCESS; 10];
+    let mut words = [0; 16];
+    let mut address = start;
     let mut guess = 0;
-    let mut i = 0;
-    while i < n {
-        let got = near::read(addresses, values, count, x, guess);
-        at[i] = x;
-        held[i] = got.word;
-        words[i] = got.word;
-        x = base::add(x, 1);
-        guess = got.place;
-        i += 1;
+    for i in 0..n {
+        let (value, place) = ram.read_near(address, guess);
+        cells[i] = Access { address, value };
+        words[i] = value;
+        address = base::add(address, step);
+        guess = place;
     }
-    Accesses {
-        addresses: at,
-        values: held,
-        words: words,
-        next: x,
+    let accesses = Accesses {
+        direction: Direction::Read,
+        cells,
+        count: n,
+    };
+    Row {
+        accesses,
+        words,
+        next: address,
     }
 }
 
-// The n words at start, start - 1, .., likewise.
-pub fn read_down(addresses: &[u64], values: &[u64], count: usize, start: u64, n: usize) -> Accesses
-    requires { Cells10 (cells count addresses.now values.now) start n }
-    ensures { ReadDown (cells count addresses.now values.now) start n result }
+pub fn read_mem(ram: &Ram<'_>, w: &Top, n: usize) -> Decided
+    requires { (st w.now.words 0 < p) × (n ≤ 5) }
+    ensures { decision_of result ≡ read_mem_of (cells_of ram.now) w.now.words n }
 {
-    let mut at = [0u64; 10];
-    let mut held = [0u64; 10];
-    let mut words = [0u64; 16];
-    let mut x = start;
-    let mut guess = 0;
-    let mut i = 0;
-    while i < n {
-        let got = near::read(addresses, values, count, x, guess);
-        at[i] = x;
-        held[i] = got.word;
-        words[i] = got.word;
-        x = base::sub(x, 1);
-        guess = got.place;
-        i += 1;
-    }
-    Accesses {
-        addresses: at,
-        values: held,
-        words: words,
-        next: x,
-    }
-}
-
-pub fn read_mem(addresses: &[u64], values: &[u64], count: usize, w: [u64; 16], n: usize) -> Decided
-    requires { (Cells10 (cells count addresses.now values.now) (st w 0) n) × (n ≤ 5) }
-    ensures { decision_of result ≡ read_mem_of (cells count addresses.now values.now) w n }
-{
-    let a = read_down(addresses, values, count, w[15], n);
-    let mut words = a.words;
-    words[n] = a.next;
-    let at = a.addresses;
-    let held = a.values;
-    effect::puts_ram(1, n + 1, words, n, 0, at, held)
+    let row = read_row(ram, w.st(0), DOWN, n);
+    let mut words = row.words;
+    words[n] = row.next;
+    let put = Few {
+        words,
+        count: n + 1,
+    };
+    Ok(Effect::puts_ram(1, put, row.accesses))
 }
 
 // The writes of ST 1, ST 2, .. to start, start + 1, ..
-fn writes(w: [u64; 16], start: u64, n: usize) -> Accesses
+fn write_row(w: &Top, start: u64, n: usize) -> Row
     requires { (start < p) × (n ≤ 5) }
-    ensures { Written w start n result }
+    ensures { Written w.now.words start n result }
 {
-    let mut at = [0u64; 10];
-    let mut held = [0u64; 10];
-    let mut x = start;
-    let mut i = 0;
-    while i < n {
-        at[i] = x;
-        held[i] = w[14 - i];
-        x = base::add(x, 1);
-        i += 1;
+    let mut cells = [NO_ACCESS; 10];
+    let mut address = start;
+    for i in 0..n {
+        let value = w.st(i + 1);
+        cells[i] = Access { address, value };
+        address = base::add(address, 1);
     }
-    Accesses {
-        addresses: at,
-        values: held,
-        words: [0u64; 16],
-        next: x,
+    let accesses = Accesses {
+        direction: Direction::Write,
+        cells,
+        count: n,
+    };
+    Row {
+        accesses,
+        words: [0; 16],
+        next: address,
     }
 }
 
-pub fn write_mem(w: [u64; 16], n: usize) -> Decided
-    requires { (Words w) × (n ≤ 5) }
-    ensures { decision_of result ≡ write_mem_of w n }
+pub fn write_mem(w: &Top, n: usize) -> Decided
+    requires { (Words w.now.words) × (n ≤ 5) }
+    ensures { decision_of result ≡ write_mem_of w.now.words n }
 {
-    let a = writes(w, w[15], n);
-    let mut words = [0u64; 16];
-    words[0] = a.next;
-    let at = a.addresses;
-    let held = a.values;
-    effect::puts_ram(n + 1, 1, words, 0, n, at, held)
+    let row = write_row(w, w.st(0), n);
+    Ok(Effect::puts_ram(n + 1, Few::of([row.next]), row.accesses))
 }

@@ -5,12 +5,12 @@ use mathlib.Core.List.{List, []}
 use Prim.Native.Nat.{ℕ, zero, suc, ◌+◌, ◌≤◌, ◌<◌}
 use native.Mathlib.Numerals.{add-one}
 use native.Mathlib.Omega.{arith}
-use borrow.Author.Tests.{ne_eqb, eqb-true, eqb-false, lt-ltb}
+use borrow.Author.Tests.{ne_eqb, eqb-true, eqb-false}
 use lib.ListN.{length, get_or, set, replicate, length-set, length-replicate}
 use lib.Seq.{get_or-set_same, get_or-set_other}
 use lib.Dec.{eqb, ltb}
 use Rattle.choices.specs.Choice.{cond, first_of, above_of}
-use Rattle.machine.specs.Refusal.{Refusal, refusal, plainly}
+use Rattle.machine.specs.Refusal.{refusal, plainly}
 use Rattle.machine.specs.Instruction.{decode, known_in}
 use Rattle.machine.specs.FeeTable.{FeeTable, fee_table, in_row, times_in, last_in, times, row_for, price_of, wide1, table1, turned64, rows64, earlier, lowest_opcode, opcodes, unpriced65, priced_twice66, table_fault, Fees, unpriced, priced, checked}
 use Rattle.std.specs.Prelude.{Option, Some, None, Result, Ok, Err, IsOk, IsErrAnd}
@@ -18,13 +18,12 @@ use Rattle.std.specs.Option.{option_or}
 use Rattle.std.specs.Bool.{then_some}
 use Rattle.machine.specs.declared.refusal.PlaceA.{PlaceA}
 use Rattle.machine.specs.declared.refusal.FeeError.{FeeError}
-use Rattle.machine.specs.declared.refusal.FeeError.TheVariants as F
 use Rattle.machine.specs.declared.refusal.InstructionError.{InstructionError}
 use Rattle.machine.specs.declared.refusal.InstructionError.TheVariants as E
-use Rattle.machine.specs.Refusal.{number_a, found_a, fee_refusal, refusal_of, found}
-use Rattle.machine_fees.specs.FeeView.{found_fee, carrying, FoundIn, Shaped, Priceable, PricesOf, OpcodesChecked, TableChecked, FeesChecked}
+use Rattle.machine.specs.Refusal.{number_a, fee_refusal, refusal_of, found}
+use Rattle.machine_fees.specs.FeeView.{found_fee, carrying, FoundIn, Shaped, Priceable, OpcodesChecked, TableChecked, FeesChecked}
 use Rattle.machine_fees.specs.declared.fee_table.Found.{Found}
-use Rattle.choices.proofs.Choice.{first-nil, above-not, above-is}
+use Rattle.choices.proofs.Choice.{above-not, above-is}
 use Rattle.machine.proofs.Words.{zeros_get_d}
 use Rattle.machine.proofs.FeeTable.{known_low, table_lowest, table-highest, table_narrow}
 use Rattle.machine.proofs.Refused.{number_a_some, fee_some}
@@ -209,11 +208,6 @@ pub rows_end : (t : FeeTable) (i : ℕ) → length t.fees ≤ 64 → length t.lo
 rows_end t i l p u v h =
     let e : i ≡ length t.lowest = omega arith in
     ap plainly (sym (rows_turned t l p ∙ ap (turned64 t) (sym e) ∙ h))
-
--- what a `?` hands on
-pub fee_handed : {A : Type 0} (r : Result A FeeError) (e : FeeError) (x : Refusal) → IsErrAnd r (λ k. k ≡ e) → fee_refusal e ≡ x → found_fee r ≡ x
-fee_handed (Ok v) e x h k = absurd h
-fee_handed (Err d) e x h k = rw h k
 
 pub table_rows : (t : FeeTable) (r : Result (Unit {0}) FeeError) (e : FeeError) (ps : List ℕ) → fee_refusal e ≡ plainly (rows64 t) → IsErrAnd r (λ x. x ≡ e) → TableChecked t r ps
 unfolding table_fault

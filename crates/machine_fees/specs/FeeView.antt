@@ -1,8 +1,8 @@
 -- What the code's answers about a fee table stand for.
-use Rattle.std.specs.Prelude.{ℕ, ◌≤◌, ◌≡◌, true, List, length, get_or, Result, Ok, Err, IsOk, Option, Some, None, ⊤}
+use Rattle.std.specs.Prelude.{ℕ, ◌≤◌, ◌≡◌, true, List, length, get_or, Result, IsOk, Option, Some, None, ⊤}
 use Rattle.machine.specs.declared.refusal.FeeError.{FeeError}
 use Rattle.machine.specs.declared.refusal.InstructionError.{InstructionError}
-use Rattle.machine.specs.Refusal.{Refusal, refusal, plainly, fee_refusal, found}
+use Rattle.machine.specs.Refusal.{Refusal, refusal, plainly, fee_refusal, found_by, found}
 use Rattle.machine.specs.Instruction.{decode, known_in}
 use Rattle.machine.specs.FeeTable.{FeeTable, fee_table, times, row_for, price_of, earlier, unpriced65, priced_twice66, table_fault, Fees, unpriced, priced, checked}
 use Rattle.machine_fees.specs.declared.fee_table.Found.{Found}
@@ -17,8 +17,7 @@ fees_of (Some t) = priced (table_of t)
 
 -- what is found wrong with a table, number 0 where nothing is
 abbrev pub found_fee : {A : Type 0} → Result A FeeError → Refusal
-found_fee (Ok _) = plainly 0
-found_fee (Err e) = fee_refusal e
+found_fee = found_by (plainly 0) fee_refusal
 
 -- the number with the opcode that it carries, where there is one
 abbrev pub carrying : ℕ → Option ℕ → Refusal

@@ -1,246 +1,193 @@
-// The instructions that hash with Tip5, and assert_vector. Their effects carry a trace, so they have a struct of their own:
-// the other instructions' effects stay small. w is the top sixteen words, bottom first: ST i is w[15 - i].
-ghost use Rattle.std.specs.Prelude.{◌≡◌, [] as Nil, ◌∷◌, ◌++◌, take, drop};
-ghost use Rattle.machine.specs.Effect.{acts, refuses, recording};
-ghost use Rattle.machine_effects.specs.EffectView.{decision_of, reads_from};
-ghost use Rattle.machine_hashing.specs.HashedView.{hashed_of};
-ghost use Rattle.machine_hashing.specs.HashedParts.{trace_first, trace_last};
-ghost use Rattle.machine.specs.Hashing.{from_top, last_state, reversed, hash_of, sponge_init_of, sponge_absorb_of, sponge_absorb_mem_of, sponge_squeeze_of, assert_vector_of};
+// The instructions that hash with Tip5, and assert_vector. What the hashing ones do carries a trace, so they have a struct of
+// their own: the other instructions' effects stay small.
+ghost use Rattle.std.specs.Prelude.{◌≡◌, ◌∷◌, ◌++◌, ◌<◌, [] as Nil, take, drop};
+ghost use Rattle.field.specs.Base.{p};
 ghost use Rattle.machine.specs.Machine.{st};
-ghost use Rattle.machine.specs.Ram.{cells};
-ghost use Rattle.machine_effects.specs.MemoryView.{Cells10};
-ghost use Rattle.machine.specs.Refusal.{refusal_of};
+ghost use Rattle.machine.specs.Effect.{recording};
+ghost use Rattle.machine.specs.Hashing.{from_top, last_state, reversed, hash_of, sponge_init_of, sponge_absorb_of, sponge_absorb_mem_of, sponge_squeeze_of, assert_vector_of};
+ghost use Rattle.machine_ram.specs.LentCells.{cells_of};
+ghost use Rattle.machine_effects.specs.EffectView.{effect_of, accesses_of, decision_of};
+ghost use Rattle.machine_hashing.specs.HashedView.{whole_of, hashed_of, trace_first, trace_last};
 
 use machine::refusal::InstructionError;
-use machine_effects::effect::Decided;
-use machine_effects::memory::Accesses;
-use machine_effects::{effect, memory};
+use machine_effects::effect::{Decided, Effect, Refused};
+use machine_effects::memory;
+use machine_effects::memory::Row;
+use machine_isa::few::Few;
+use machine_isa::op_stack::Top;
+use machine_ram::ram::Ram;
 use tip5::permutation::trace;
 use tip5::sponge::Sponge;
-use tip5::words::copy;
 
 #[derive(Clone, Copy)]
 pub struct Hashed {
     // What it does but for the sponge and the trace.
-    pub decided: Decided,
-    // Whether the sponge becomes `sponge`.
-    pub sponges: bool,
-    pub sponge: Sponge,
-    // Whether a trace is recorded, under `opcode`, before the other calls or behind them; else the sponge is reset.
-    pub traces: bool,
-    pub first: bool,
-    pub opcode: u64,
-    pub trace: [u64; 96],
+    pub effect: Effect,
+    // What the sponge becomes, where it changes.
+    pub sponge: Option<Sponge>,
+    pub recorded: Recorded,
 }
+
+// What is recorded besides the effect's own calls: a reset of the sponge before them, or, under an opcode, a trace before or
+// behind them.
+#[derive(Clone, Copy)]
+pub enum Recorded {
+    Reset,
+    First(u64, [u64; 96]),
+    Last(u64, [u64; 96]),
+}
+
+pub type HashDecided = Result<Hashed, Refused>;
 
 // ---- what they are built of
 
-// A refused one has zeros for the rest.
-pub fn refused(error: InstructionError) -> Hashed
-    ensures { hashed_of result ≡ refuses (refusal_of error) }
-{
-    Hashed {
-        decided: effect::refuse(error),
-        sponges: false,
-        sponge: Sponge {
-            words: [0u64; 16],
-            set: false,
-        },
-        traces: false,
-        first: false,
-        opcode: 0,
-        trace: [0u64; 96],
-    }
-}
-
 // A trace is recorded before the other calls, and the sponge stays.
-pub fn trace_first(decided: Decided, opcode: u64, trace: [u64; 96]) -> Hashed
-    ensures { hashed_of result ≡ trace_first opcode trace (decision_of decided) }
+pub fn first(effect: Effect, opcode: u64, trace: [u64; 96]) -> Hashed
+    ensures { whole_of result ≡ trace_first opcode trace (effect_of effect) }
 {
     Hashed {
-        decided: decided,
-        sponges: false,
-        sponge: Sponge {
-            words: [0u64; 16],
-            set: false,
-        },
-        traces: true,
-        first: true,
-        opcode: opcode,
-        trace: trace,
+        effect,
+        sponge: None,
+        recorded: Recorded::First(opcode, trace),
     }
 }
 
 // The last of a trace's six states.
-pub fn last_state(trace: [u64; 96]) -> [u64; 16]
-    ensures { result ≡ last_state trace }
+pub fn last_state(trace: &[u64; 96]) -> [u64; 16]
+    ensures { result ≡ last_state trace.now }
 {
-    let mut words = [0u64; 16];
-    copy(&mut words, 0, &trace[80..], 16);
+    let mut words = [0; 16];
+    words.copy_from_slice(&trace[80..]);
     words
 }
 
 // A trace is recorded behind the other calls, and its last state becomes the sponge.
-fn trace_last(decided: Decided, opcode: u64, trace: [u64; 96]) -> Hashed
-    ensures { hashed_of result ≡ trace_last opcode trace (decision_of decided) }
+fn last(effect: Effect, opcode: u64, trace: [u64; 96]) -> Hashed
+    ensures { whole_of result ≡ trace_last opcode trace (effect_of effect) }
 {
+    let sponge = Sponge {
+        words: last_state(&trace),
+        set: true,
+    };
     Hashed {
-        decided: decided,
-        sponges: true,
-        sponge: Sponge {
-            words: last_state(trace),
-            set: true,
-        },
-        traces: true,
-        first: false,
-        opcode: opcode,
-        trace: trace,
+        effect,
+        sponge: Some(sponge),
+        recorded: Recorded::Last(opcode, trace),
     }
 }
 
 // The window with ST 0 first.
-pub fn top_first(w: [u64; 16]) -> [u64; 16]
-    ensures { result ≡ from_top w 0 16 }
+pub fn top_first(w: &Top) -> [u64; 16]
+    ensures { result ≡ from_top w.now.words 0 16 }
 {
+    let s = w.words;
     [
-        w[15], w[14], w[13], w[12], w[11], w[10], w[9], w[8], w[7], w[6], w[5], w[4], w[3], w[2],
-        w[1], w[0],
+        s[15], s[14], s[13], s[12], s[11], s[10], s[9], s[8], s[7], s[6], s[5], s[4], s[3], s[2],
+        s[1], s[0],
     ]
 }
 
 // Ten words, then those of `rest` from place 10 on.
-fn overwritten(rest: [u64; 16], ten: [u64; 16]) -> [u64; 16]
-    ensures { result ≡ take 10 ten ++ drop 10 rest }
+fn overwritten(rest: [u64; 16], ten: &[u64; 16]) -> [u64; 16]
+    ensures { result ≡ take 10 ten.now ++ drop 10 rest }
 {
     let mut words = rest;
-    copy(&mut words, 0, &ten, 10);
+    words[..10].copy_from_slice(&ten[..10]);
     words
 }
 
 // Words 0 to 4 of a trace's last state as they are put on, word 0 last.
-fn digest(trace: [u64; 96]) -> [u64; 16]
-    ensures { take 5 result ≡ reversed (last_state trace) 5 }
+fn digest(trace: &[u64; 96]) -> [u64; 5]
+    ensures { result ≡ reversed (last_state trace.now) 5 }
 {
     let s = last_state(trace);
-    let mut words = [0u64; 16];
-    words[0] = s[4];
-    words[1] = s[3];
-    words[2] = s[2];
-    words[3] = s[1];
-    words[4] = s[0];
-    words
+    [s[4], s[3], s[2], s[1], s[0]]
 }
 
 // ---- the instructions
 
-pub fn hash(w: [u64; 16]) -> Hashed
-    ensures { hashed_of result ≡ hash_of w }
+pub fn hash(w: &Top) -> HashDecided
+    ensures { hashed_of result ≡ hash_of w.now.words }
 {
-    let t = trace(overwritten([1u64; 16], top_first(w)));
-    trace_first(effect::puts(10, 5, digest(t)), 18, t)
+    let t = trace(overwritten([1; 16], &top_first(w)));
+    Ok(first(Effect::puts(10, Few::of(digest(&t))), 18, t))
 }
 
 // The first of five places at which ST i and ST i + 5 differ is refused.
-pub fn assert_vector(w: [u64; 16]) -> Decided
-    ensures { decision_of result ≡ assert_vector_of w }
+pub fn assert_vector(w: &Top) -> Decided
+    ensures { decision_of result ≡ assert_vector_of w.now.words }
 {
-    let mut i = 0;
-    while i < 5 {
-        let a = w[15 - i];
-        let b = w[10 - i];
+    for i in 0..5 {
+        let a = w.st(i);
+        let b = w.st(i + 5);
         if a != b {
-            return effect::refuse(InstructionError::VectorAssertionFailed(i as u64, a, b));
+            return Err(InstructionError::VectorAssertionFailed(i as u64, a, b).into());
         }
-        i += 1;
     }
-    effect::take_off(5)
+    Ok(Effect::takes_off(5))
 }
 
-pub fn sponge_init() -> Hashed
+pub fn sponge_init() -> HashDecided
     ensures { hashed_of result ≡ sponge_init_of }
 {
-    Hashed {
-        decided: effect::take_off(0),
-        sponges: true,
-        sponge: Sponge {
-            words: [0u64; 16],
-            set: true,
-        },
-        traces: false,
-        first: false,
-        opcode: 0,
-        trace: [0u64; 96],
-    }
+    let sponge = Sponge {
+        words: [0; 16],
+        set: true,
+    };
+    Ok(Hashed {
+        effect: Effect::takes_off(0),
+        sponge: Some(sponge),
+        recorded: Recorded::Reset,
+    })
 }
 
-pub fn sponge_absorb(sponge: Sponge, w: [u64; 16]) -> Hashed
-    ensures { hashed_of result ≡ sponge_absorb_of sponge w }
+pub fn sponge_absorb(sponge: &Sponge, w: &Top) -> HashDecided
+    ensures { hashed_of result ≡ sponge_absorb_of sponge.now w.now.words }
 {
-    if sponge.set {
-        let words = sponge.words;
-        let t = trace(overwritten(words, top_first(w)));
-        trace_last(effect::take_off(10), 34, t)
-    } else {
-        refused(InstructionError::SpongeNotInitialized)
+    if !sponge.set {
+        return Err(InstructionError::SpongeNotInitialized.into());
     }
+    let t = trace(overwritten(sponge.words, &top_first(w)));
+    Ok(last(Effect::takes_off(10), 34, t))
 }
 
 // Puts on the first four of the words read, word 0 last, and the address behind them all.
-fn put_read(a: Accesses) -> Decided
-    ensures { decision_of result ≡ acts (recording (reads_from a.addresses a.values 0 10) 5 (reversed a.words 4 ++ (a.next ∷ Nil))) }
+fn put_read(row: &Row) -> Effect
+    ensures { effect_of result ≡ recording (accesses_of row.now.accesses) 5 (reversed row.now.words 4 ++ (row.now.next ∷ Nil)) }
 {
-    let ten = a.words;
-    let mut words = [0u64; 16];
-    words[0] = ten[3];
-    words[1] = ten[2];
-    words[2] = ten[1];
-    words[3] = ten[0];
-    words[4] = a.next;
-    let at = a.addresses;
-    let held = a.values;
-    effect::puts_ram(5, 5, words, 10, 0, at, held)
+    let ten = row.words;
+    let words = [ten[3], ten[2], ten[1], ten[0], row.next];
+    Effect::puts_ram(5, Few::of(words), row.accesses)
 }
 
 // Ten words from the address in ST 0 on are absorbed.
-pub fn sponge_absorb_mem(
-    sponge: Sponge,
-    addresses: &[u64],
-    values: &[u64],
-    count: usize,
-    w: [u64; 16],
-) -> Hashed
-    requires { Cells10 (cells count addresses.now values.now) (st w 0) 10 }
-    ensures { hashed_of result ≡ sponge_absorb_mem_of sponge (cells count addresses.now values.now) w }
+pub fn sponge_absorb_mem(sponge: &Sponge, ram: &Ram<'_>, w: &Top) -> HashDecided
+    requires { st w.now.words 0 < p }
+    ensures { hashed_of result ≡ sponge_absorb_mem_of sponge.now (cells_of ram.now) w.now.words }
 {
-    if sponge.set {
-        let a = memory::read_up(addresses, values, count, w[15], 10);
-        let words = sponge.words;
-        let ten = a.words;
-        let t = trace(overwritten(words, ten));
-        trace_last(put_read(a), 34, t)
-    } else {
-        refused(InstructionError::SpongeNotInitialized)
+    if !sponge.set {
+        return Err(InstructionError::SpongeNotInitialized.into());
     }
+    let row = memory::read_row(ram, w.st(0), memory::UP, 10);
+    let t = trace(overwritten(sponge.words, &row.words));
+    Ok(last(put_read(&row), 34, t))
 }
 
 // The first ten of sixteen words as they are put on, word 0 last.
-fn rate(s: [u64; 16]) -> [u64; 16]
-    ensures { take 10 result ≡ reversed s 10 }
+fn rate(s: [u64; 16]) -> [u64; 10]
+    ensures { result ≡ reversed s 10 }
 {
-    [
-        s[9], s[8], s[7], s[6], s[5], s[4], s[3], s[2], s[1], s[0], 0, 0, 0, 0, 0, 0,
-    ]
+    [s[9], s[8], s[7], s[6], s[5], s[4], s[3], s[2], s[1], s[0]]
 }
 
 // The sponge's first ten words go on the stack.
-pub fn sponge_squeeze(sponge: Sponge) -> Hashed
-    ensures { hashed_of result ≡ sponge_squeeze_of sponge }
+pub fn sponge_squeeze(sponge: &Sponge) -> HashDecided
+    ensures { hashed_of result ≡ sponge_squeeze_of sponge.now }
 {
-    if sponge.set {
-        let s = sponge.words;
-        let t = trace(s);
-        trace_last(effect::puts(0, 10, rate(s)), 56, t)
-    } else {
-        refused(InstructionError::SpongeNotInitialized)
+    if !sponge.set {
+        return Err(InstructionError::SpongeNotInitialized.into());
     }
+    let s = sponge.words;
+    let t = trace(s);
+    Ok(last(Effect::puts(0, Few::of(rate(s))), 56, t))
 }

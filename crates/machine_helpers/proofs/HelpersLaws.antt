@@ -10,7 +10,7 @@ use native.Mathlib.Omega.{arith}
 use borrow.Author.Tests.{lt-ltb, le-ltb}
 use lib.ListN.{length, get_or, take}
 use lib.Dec.{ltb}
-use Rattle.machine_effects.specs.declared.memory.Accesses.{Accesses}
+use Rattle.machine_effects.specs.declared.memory.Row.{Row}
 use Rattle.choices.specs.Choice.{cond}
 use Rattle.machine.specs.Instruction.{decode}
 use Rattle.machine.specs.Ram.{Cells}
@@ -18,7 +18,7 @@ use Rattle.machine.specs.Machine.{Machine}
 use Rattle.machine.specs.Decide.{opcode_of, argument_of}
 use Rattle.machine.specs.HelperVariables.{filled, helpers_in, helpers_at}
 use Rattle.machine.specs.Memory.{words_up}
-use Rattle.machine_effects.specs.MemoryView.{ReadUp}
+use Rattle.machine_effects.specs.MemoryView.{ReadBy}
 use Rattle.machine.specs.Sound.{Sound}
 use Rattle.machine_helpers.specs.HelpersView.{Helpable}
 use Rattle.machine_isa.proofs.TableLaws.{OneOf}
@@ -34,7 +34,7 @@ from_tail : (x : ℕ) (s : List ℕ) (i n : ℕ) → from (x ∷ s) (suc i) n �
 from_tail x s i zero = refl
 from_tail x s i (suc n) = rw (add-one (suc i), add-one i) (ap (λ (r : List ℕ). get_or s i 0 ∷ r) (from_tail x s (suc i) n))
 
-from_front : (s : List ℕ) (n : ℕ) → n ≤ length s → from s 0 n ≡ take n s
+pub from_front : (s : List ℕ) (n : ℕ) → n ≤ length s → from s 0 n ≡ take n s
 from_front s zero h = refl
 from_front [] (suc n) h = absurd (omega arith)
 from_front (x ∷ s) (suc n) h = ap (λ (r : List ℕ). x ∷ r) (from_tail x s 0 n ∙ from_front s n (omega arith))
@@ -43,8 +43,8 @@ pub took : (s l : List ℕ) (n : ℕ) → n ≤ length s → take n s ≡ l → 
 took s l n h e = sym e ∙ sym (from_front s n h)
 
 -- the words of a row of reads
-pub up_front : {c : Cells} {a n : ℕ} {r : Accesses} → ReadUp c a n r → n ≤ 16 → words_up c a n ≡ from r.words 0 n
-up_front {c} {a} {n} {r} e h = took r.words (words_up c a n) n (omega (arith, e.sixteen)) e.words
+pub up_front : {c : Cells} {a n : ℕ} {r : Row} → ReadBy 1 c a n r → length r.words ≡ 16 → n ≤ 16 → words_up c a n ≡ from r.words 0 n
+up_front {c} {a} {n} {r} e l h = took r.words (words_up c a n) n (omega arith) e.words
 
 -- ---- arms
 
@@ -65,7 +65,7 @@ no_words (x ∷ s) e = absurd (omega arith)
 
 -- ---- what a sound machine gives
 
-pub sound-helpable : (m : Machine) → Sound m → Helpable m.state m.code.opcodes m.code.arguments m.code.digests m.memory.op_stack m.memory.addresses m.memory.values
+pub sound-helpable : (m : Machine) → Sound m → Helpable m
 sound-helpable m s =
     record {
       slots = s.code.slots;

@@ -1,19 +1,21 @@
-// The six helper variables of a machine before its step; those not named are 0. w is the top sixteen words, bottom first:
-// ST i is w[15 - i].
-ghost use Rattle.std.specs.Prelude.{◌≡◌, [] as Nil, ◌∷◌, ◌++◌, ◌*◌, ◌%◌, ◌≤◌, ◌<◌, length, take, drop};
+// The six helper variables of a machine before its step; those not named are 0.
+ghost use Rattle.std.specs.Prelude.{◌≡◌, [] as Nil, ◌∷◌, ◌++◌, ◌%◌, ◌<◌, length};
 ghost use Rattle.field.specs.Base.{p, add_p, sub_p, inverse_p};
-ghost use Rattle.machine.specs.Words.{Words};
-ghost use Rattle.machine.specs.Ram.{cells, held};
-ghost use Rattle.machine.specs.Machine.{st};
+ghost use Rattle.machine.specs.Ram.{held};
+ghost use Rattle.machine.specs.Machine.{machine, st};
+ghost use Rattle.machine.specs.Lent.{code_of, seen};
 ghost use Rattle.machine.specs.Memory.{words_up};
-ghost use Rattle.machine.specs.HelperVariables.{filled, argument_bits, next_opcode, opcode_parts, split_helper, next_digest};
-ghost use Rattle.machine_helpers.specs.HelpersView.{handed_help, ReliableHelp, HelpsAs, ReliableTop, HelpersOf, Helpable, HelpersAre, Reading};
+ghost use Rattle.machine.specs.HelperVariables.{filled, argument_bits, next_opcode, opcode_parts, split_helper, next_digest, helpers_at};
+ghost use Rattle.machine_ram.specs.LentCells.{cells_of};
+ghost use Rattle.machine_helpers.specs.HelpersView.{HelpsAs, HelpersOf, Helpable};
 
+use crate::seen::Seen;
 use field::base;
+use machine::lent::{LentCode, SeenMemory};
 use machine::state::VMState;
-use machine_effects::{effect, memory};
-use machine_isa::op_stack::top;
-use machine_ram::ram;
+use machine_effects::memory;
+use machine_isa::op_stack::Top;
+use machine_ram::ram::Ram;
 
 // The argument's digits 0 to 3.
 fn argument_bits(n: u64) -> [u64; 6]
@@ -22,8 +24,6 @@ fn argument_bits(n: u64) -> [u64; 6]
     [n % 2, n / 2 % 2, n / 4 % 2, n / 8 % 2, 0, 0]
 }
 
-// ---- inverses
-
 // The inverse of a - b, 0 where they are equal.
 fn inverse_of_difference(a: u64, b: u64) -> [u64; 6]
     requires { (a < p) × (b < p) }
@@ -31,35 +31,6 @@ fn inverse_of_difference(a: u64, b: u64) -> [u64; 6]
 {
     [base::inverse_or_zero(base::sub(a, b)), 0, 0, 0, 0, 0]
 }
-
-fn recurse_or_return(w: [u64; 16]) -> [u64; 6]
-    requires { Words w }
-    ensures { result ≡ filled (inverse_p (sub_p (st w 6) (st w 5)) ∷ Nil) }
-{
-    inverse_of_difference(w[9], w[10])
-}
-
-fn eq(w: [u64; 16]) -> [u64; 6]
-    requires { Words w }
-    ensures { result ≡ filled (inverse_p (sub_p (st w 1) (st w 0)) ∷ Nil) }
-{
-    inverse_of_difference(w[14], w[15])
-}
-
-// Shows that the upper half is not 2^32 - 1; where the lower half is 0 it may be.
-fn split(w: [u64; 16]) -> [u64; 6]
-    requires { Words w }
-    ensures { result ≡ filled (split_helper (st w 0) ∷ Nil) }
-{
-    let x = w[15];
-    if base::low(x) == 0 {
-        [0u64; 6]
-    } else {
-        inverse_of_difference(base::high(x), 0xffff_ffff)
-    }
-}
-
-// ---- skiz
 
 // 1 where the program ends with the slot at the pointer.
 pub fn next_opcode(opcodes: &[u64], pointer: u64) -> u64
@@ -71,170 +42,157 @@ pub fn next_opcode(opcodes: &[u64], pointer: u64) -> u64
     if at < opcodes.len() { opcodes[at] } else { 1 }
 }
 
-fn skiz(opcodes: &[u64], pointer: u64, w: [u64; 16]) -> [u64; 6]
-    requires { (Words w) × (pointer < length opcodes.now) }
-    ensures { result ≡ filled (inverse_p (st w 0) ∷ opcode_parts (next_opcode opcodes.now pointer)) }
-{
-    let o = next_opcode(opcodes, pointer);
-    [
-        base::inverse_or_zero(w[15]),
-        o % 2,
-        o / 2 % 4,
-        o / 8 % 4,
-        o / 32 % 4,
-        o / 128,
-    ]
-}
-
-// ---- digests and RAM
-
 // Zeros where less than a digest is left.
-fn next_digest(digests: &[u64], taken: usize) -> [u64; 16]
-    requires { 5 * taken ≤ length digests.now }
-    ensures { take 5 result ≡ next_digest (drop (5 * taken) digests.now) }
+fn next_digest(left: &[u64]) -> [u64; 5]
+    ensures { result ≡ next_digest left.now }
 {
-    let at = 5 * taken;
-    if digests.len() - at < 5 {
-        return [0u64; 16];
+    if left.len() < 5 {
+        return [0; 5];
     }
-    effect::words_from(digests, at, 5)
+    [left[0], left[1], left[2], left[3], left[4]]
 }
 
-fn merkle_step(digests: &[u64], taken: usize, w: [u64; 16]) -> [u64; 6]
-    requires { 5 * taken ≤ length digests.now }
-    ensures { result ≡ filled (next_digest (drop (5 * taken) digests.now) ++ (st w 5 % 2 ∷ Nil)) }
-{
-    let d = next_digest(digests, taken);
-    [d[0], d[1], d[2], d[3], d[4], w[10] % 2]
-}
+impl Seen<'_> {
+    fn recurse_or_return(&self) -> [u64; 6]
+        ensures { result ≡ filled (inverse_p (sub_p (st self.now.top.words 6) (st self.now.top.words 5)) ∷ Nil) }
+    {
+        inverse_of_difference(self.top.word(6), self.top.word(5))
+    }
 
-fn merkle_step_mem(addresses: &[u64], values: &[u64], count: usize, w: [u64; 16]) -> [u64; 6]
-    requires { Reading (cells count addresses.now values.now) w }
-    ensures { result ≡ filled (words_up (cells count addresses.now values.now) (st w 7) 5 ++ (st w 5 % 2 ∷ Nil)) }
-{
-    let a = memory::read_up(addresses, values, count, w[8], 5);
-    let d = a.words;
-    [d[0], d[1], d[2], d[3], d[4], w[10] % 2]
-}
+    fn eq(&self) -> [u64; 6]
+        ensures { result ≡ filled (inverse_p (sub_p (st self.now.top.words 1) (st self.now.top.words 0)) ∷ Nil) }
+    {
+        inverse_of_difference(self.top.word(1), self.top.word(0))
+    }
 
-// The last six of the ten words that are absorbed.
-fn sponge_absorb_mem(addresses: &[u64], values: &[u64], count: usize, w: [u64; 16]) -> [u64; 6]
-    requires { Reading (cells count addresses.now values.now) w }
-    ensures { result ≡ filled (words_up (cells count addresses.now values.now) (add_p (st w 0) 4) 6) }
-{
-    let a = memory::read_up(addresses, values, count, base::add(w[15], 4), 6);
-    let d = a.words;
-    [d[0], d[1], d[2], d[3], d[4], d[5]]
-}
+    // Shows that the upper half is not 2^32 - 1; where the lower half is 0 it may be.
+    fn split(&self) -> [u64; 6]
+        ensures { result ≡ filled (split_helper (st self.now.top.words 0) ∷ Nil) }
+    {
+        let x = self.top.st(0);
+        if base::low(x) == 0 {
+            [0; 6]
+        } else {
+            inverse_of_difference(base::high(x), 0xffff_ffff)
+        }
+    }
 
-fn xx_dot_step(addresses: &[u64], values: &[u64], count: usize, w: [u64; 16]) -> [u64; 6]
-    requires { Reading (cells count addresses.now values.now) w }
-    ensures { result ≡ filled (words_up (cells count addresses.now values.now) (st w 0) 3 ++ words_up (cells count addresses.now values.now) (st w 1) 3) }
-{
-    let a = memory::read_up(addresses, values, count, w[15], 3);
-    let b = memory::read_up(addresses, values, count, w[14], 3);
-    let x = a.words;
-    let y = b.words;
-    [x[0], x[1], x[2], y[0], y[1], y[2]]
-}
+    fn skiz(&self) -> [u64; 6]
+        requires { self.now.pointer < length self.now.opcodes.now }
+        ensures { result ≡ filled (inverse_p (st self.now.top.words 0) ∷ opcode_parts (next_opcode self.now.opcodes.now self.now.pointer)) }
+    {
+        let o = next_opcode(self.opcodes, self.pointer);
+        [
+            base::inverse_or_zero(self.top.word(0)),
+            o % 2,
+            o / 2 % 4,
+            o / 8 % 4,
+            o / 32 % 4,
+            o / 128,
+        ]
+    }
 
-fn xb_dot_step(addresses: &[u64], values: &[u64], count: usize, w: [u64; 16]) -> [u64; 6]
-    requires { Reading (cells count addresses.now values.now) w }
-    ensures { result ≡ filled (held (cells count addresses.now values.now) (st w 0) ∷ words_up (cells count addresses.now values.now) (st w 1) 3) }
-{
-    let x = ram::read(addresses, values, count, w[15]);
-    let b = memory::read_up(addresses, values, count, w[14], 3);
-    let y = b.words;
-    [x, y[0], y[1], y[2], 0, 0]
-}
+    // ---- digests and RAM
 
-// ---- all instructions
+    fn merkle_step(&self) -> [u64; 6]
+        ensures { result ≡ filled (next_digest self.now.digests.now ++ (st self.now.top.words 5 % 2 ∷ Nil)) }
+    {
+        let d = next_digest(self.digests);
+        [d[0], d[1], d[2], d[3], d[4], self.top.st(5) % 2]
+    }
 
-fn of_slot(
-    opcode: u64,
-    argument: u64,
-    w: [u64; 16],
-    pointer: u64,
-    opcodes: &[u64],
-    digests: &[u64],
-    taken: usize,
-    addresses: &[u64],
-    values: &[u64],
-    count: usize,
-) -> [u64; 6]
-    requires { ReliableHelp (handed_help opcode argument w pointer opcodes.now digests.now taken (cells count addresses.now values.now)) }
-    ensures { HelpsAs (handed_help opcode argument w pointer opcodes.now digests.now taken (cells count addresses.now values.now)) result }
-{
-    match opcode {
-        3 | 9 | 11 | 17 | 19 | 25 | 33 | 41 | 57 | 73 => argument_bits(argument),
-        2 => skiz(opcodes, pointer, w),
-        32 => recurse_or_return(w),
-        48 => sponge_absorb_mem(addresses, values, count, w),
-        36 => merkle_step(digests, taken, w),
-        44 => merkle_step_mem(addresses, values, count, w),
-        4 => split(w),
-        58 => eq(w),
-        80 => xx_dot_step(addresses, values, count, w),
-        88 => xb_dot_step(addresses, values, count, w),
-        _ => [0u64; 6],
+    #[tactic(auto, using(crate::proofs::HelpersLaws::up_front))]
+    fn merkle_step_mem(&self) -> [u64; 6]
+        ensures { result ≡ filled (words_up (cells_of self.now.ram) (st self.now.top.words 7) 5 ++ (st self.now.top.words 5 % 2 ∷ Nil)) }
+    {
+        let row = memory::read_row(&self.ram, self.top.word(7), memory::UP, 5);
+        let d = row.words;
+        [d[0], d[1], d[2], d[3], d[4], self.top.st(5) % 2]
+    }
+
+    // The last six of the ten words that are absorbed.
+    #[tactic(auto, using(crate::proofs::HelpersLaws::up_front))]
+    fn sponge_absorb_mem(&self) -> [u64; 6]
+        ensures { result ≡ filled (words_up (cells_of self.now.ram) (add_p (st self.now.top.words 0) 4) 6) }
+    {
+        let start = base::add(self.top.word(0), 4);
+        let row = memory::read_row(&self.ram, start, memory::UP, 6);
+        let d = row.words;
+        [d[0], d[1], d[2], d[3], d[4], d[5]]
+    }
+
+    #[tactic(auto, using(crate::proofs::HelpersLaws::up_front))]
+    fn xx_dot_step(&self) -> [u64; 6]
+        ensures { result ≡ filled (words_up (cells_of self.now.ram) (st self.now.top.words 0) 3 ++ words_up (cells_of self.now.ram) (st self.now.top.words 1) 3) }
+    {
+        let left = memory::read_row(&self.ram, self.top.word(0), memory::UP, 3);
+        let right = memory::read_row(&self.ram, self.top.word(1), memory::UP, 3);
+        let x = left.words;
+        let y = right.words;
+        [x[0], x[1], x[2], y[0], y[1], y[2]]
+    }
+
+    #[tactic(auto, using(crate::proofs::HelpersLaws::up_front))]
+    fn xb_dot_step(&self) -> [u64; 6]
+        ensures { result ≡ filled (held (cells_of self.now.ram) (st self.now.top.words 0) ∷ words_up (cells_of self.now.ram) (st self.now.top.words 1) 3) }
+    {
+        let x = self.ram.read(self.top.word(0));
+        let row = memory::read_row(&self.ram, self.top.word(1), memory::UP, 3);
+        let y = row.words;
+        [x, y[0], y[1], y[2], 0, 0]
+    }
+
+    // ---- all instructions
+
+    fn of_slot(&self, opcode: u64, argument: u64) -> [u64; 6]
+        requires { self.now.pointer < length self.now.opcodes.now }
+        ensures { HelpsAs self.now opcode argument result }
+    {
+        match opcode {
+            3 | 9 | 11 | 17 | 19 | 25 | 33 | 41 | 57 | 73 => argument_bits(argument),
+            2 => self.skiz(),
+            32 => self.recurse_or_return(),
+            48 => self.sponge_absorb_mem(),
+            36 => self.merkle_step(),
+            44 => self.merkle_step_mem(),
+            4 => self.split(),
+            58 => self.eq(),
+            80 => self.xx_dot_step(),
+            88 => self.xb_dot_step(),
+            _ => [0; 6],
+        }
+    }
+
+    // Outside the program there is no slot, and they are zeros.
+    pub fn helpers(&self) -> [u64; 6]
+        ensures { HelpersOf self.now result }
+    {
+        let at = self.pointer as usize;
+        if at < self.opcodes.len() {
+            self.of_slot(self.opcodes[at], self.arguments[at])
+        } else {
+            [0; 6]
+        }
     }
 }
 
-// Outside the program there is no slot, and they are zeros. w is the top sixteen words.
-pub fn helpers_of(
-    pointer: u64,
-    w: [u64; 16],
-    opcodes: &[u64],
-    arguments: &[u64],
-    digests: &[u64],
-    taken: usize,
-    addresses: &[u64],
-    values: &[u64],
-    count: usize,
-) -> [u64; 6]
-    requires { ReliableTop w opcodes.now arguments.now digests.now taken (cells count addresses.now values.now) }
-    ensures { HelpersOf pointer w opcodes.now arguments.now digests.now taken (cells count addresses.now values.now) result }
+pub fn helpers<'a>(state: &VMState, code: &LentCode<'a>, memory: &SeenMemory<'a>) -> [u64; 6]
+    requires { Helpable (machine state.now (code_of code.now) (seen memory.now)) }
+    ensures { result ≡ helpers_at (machine state.now (code_of code.now) (seen memory.now)) }
 {
-    let at = pointer as usize;
-    if at < opcodes.len() {
-        of_slot(
-            opcodes[at],
-            arguments[at],
-            w,
-            pointer,
-            opcodes,
-            digests,
-            taken,
-            addresses,
-            values,
-            count,
-        )
-    } else {
-        [0u64; 6]
-    }
-}
-
-pub fn helpers(
-    state: VMState,
-    opcodes: &[u64],
-    arguments: &[u64],
-    digests: &[u64],
-    op_stack: &[u64],
-    addresses: &[u64],
-    values: &[u64],
-) -> [u64; 6]
-    requires { Helpable state opcodes.now arguments.now digests.now op_stack.now addresses.now values.now }
-    ensures { HelpersAre state opcodes.now arguments.now digests.now op_stack.now addresses.now values.now result }
-{
-    helpers_of(
-        state.pointer,
-        top(op_stack, state.depth),
-        opcodes,
-        arguments,
-        digests,
-        state.digests,
-        addresses,
-        values,
-        state.cells,
-    )
+    let top = Top::of(memory.op_stack, state.depth);
+    let ram = Ram {
+        addresses: memory.addresses,
+        values: memory.values,
+        count: state.cells,
+    };
+    let seen = Seen {
+        pointer: state.pointer,
+        top,
+        opcodes: code.opcodes,
+        arguments: code.arguments,
+        digests: &code.digests[5 * state.digests..],
+        ram,
+    };
+    seen.helpers()
 }

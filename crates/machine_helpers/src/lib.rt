@@ -2,3 +2,4 @@
 #![tactic(auto)]
 
 pub mod helper_variables;
+pub mod seen;

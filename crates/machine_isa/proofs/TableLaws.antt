@@ -1,16 +1,17 @@
 -- What a `match` on an opcode shows of the table: one law for an arm, one for what is left. Assumes nothing.
-use mathlib.Core.Path.{◌≡◌, refl}
+use mathlib.Core.Path.{◌≡◌, refl, ap}
 use mathlib.Core.Logic.{inl, inr, ◌⊎◌}
 use mathlib.Core.Bool.{Bool, true, false}
 use mathlib.Core.List.{List, [], ◌∷◌}
-use Prim.Native.Nat.{ℕ, suc, ◌+◌, ◌-◌, ◌<◌}
+use Prim.Native.Nat.{ℕ, suc, ◌<◌}
 use native.Mathlib.Omega.{arith}
-use borrow.Author.Tests.{eqb-true, lt-ltb, le-ltb, ne_eqb, ltb-false}
+use borrow.Author.Tests.{eqb-true, ltb-false}
 use lib.Dec.{T, eqb, ltb, lit<, leb→le}
+use Rattle.std.proofs.Common.{Option, Some, None, is_some}
 use Rattle.choices.specs.Choice.{cond}
 use Rattle.machine.specs.Instruction.{Argument, nothing, words, place_of_stack, any, Row, Decoded, known, unknown, known_in, decode_in, argument_fault, Change, grows, shrinks, grows_by_argument, shrinks_by_argument, grown_by, shrunk_by, table, decode, size_in, slots_of}
-use Rattle.machine_isa.specs.InstructionView.{kind_of, kind_in, change_of, change_in, grown_in, shrunk_in}
-use Rattle.machine.specs.PlaceA.{unknown3, argument4}
+use Rattle.machine_isa.specs.InstructionView.{argument_in, change_in, grown_in, shrunk_in}
+use Rattle.machine.specs.PlaceA.{argument4}
 
 -- x is one of an arm's numbers
 abbrev pub OneOf : ℕ → List ℕ → Type 0
@@ -23,23 +24,24 @@ abbrev pub Rest : ℕ → List (List ℕ) → Type 0
 Rest x [] = Unit
 Rest x (ks ∷ arms) = Rest x arms × (OneOf x ks → ⊥)
 
--- f gives a at each of an arm's numbers
-abbrev pub gives : (ℕ → ℕ) → ℕ → List ℕ → Bool
-gives f a [] = true
-gives f a (k ∷ ks) = cond (eqb (f k) a) (gives f a ks) false
+-- f gives a at each of an arm's numbers, by a test that tells its values apart
+module _ {A : Type 0} (same : A → A → Bool) (sound : (x y : A) → same x y ≡ true → x ≡ y) (f : ℕ → A) (a : A) where
+  abbrev pub gives : List ℕ → Bool
+  gives [] = true
+  gives (k ∷ ks) = cond (same (f k) a) (gives ks) false
 
-gives_head : (f : ℕ → ℕ) (a k : ℕ) (ks : List ℕ) → T (gives f a (k ∷ ks)) → (f k ≡ a) × T (gives f a ks)
-gives_head f a k ks t = go (eqb (f k) a) refl t
-  where
-    go : (b : Bool) → eqb (f k) a ≡ b → T (cond b (gives f a ks) false) → (f k ≡ a) × T (gives f a ks)
-    go true e u = (eqb-true (f k) a e, u)
-    go false e u = absurd u
+  gives_head : (k : ℕ) (ks : List ℕ) → T (gives (k ∷ ks)) → (f k ≡ a) × T (gives ks)
+  gives_head k ks t = go (same (f k) a) refl t
+    where
+      go : (b : Bool) → same (f k) a ≡ b → T (cond b (gives ks) false) → (f k ≡ a) × T (gives ks)
+      go true e u = (sound (f k) a e, u)
+      go false e u = absurd u
 
-pub arm : (f : ℕ → ℕ) (a : ℕ) (ks : List ℕ) → T (gives f a ks) → (x : ℕ) → OneOf x ks → f x ≡ a
-arm f a [] t x h = absurd h
-arm f a (k ∷ []) t x h = rw h (gives_head f a k [] t).0
-arm f a (k ∷ l ∷ ks) t x (inl h) = rw h (gives_head f a k (l ∷ ks) t).0
-arm f a (k ∷ l ∷ ks) t x (inr h) = arm f a (l ∷ ks) (gives_head f a k (l ∷ ks) t).1 x h
+  pub arm : (ks : List ℕ) → T (gives ks) → (x : ℕ) → OneOf x ks → f x ≡ a
+  arm [] t x h = absurd h
+  arm (k ∷ []) t x h = rw h (gives_head k [] t).0
+  arm (k ∷ l ∷ ks) t x (inl h) = rw h (gives_head k (l ∷ ks) t).0
+  arm (k ∷ l ∷ ks) t x (inr h) = arm (l ∷ ks) (gives_head k (l ∷ ks) t).1 x h
 
 -- ---- what is left
 
@@ -50,11 +52,6 @@ among x (k ∷ ks) = cond (eqb x k) true (among x ks)
 abbrev in_arms : ℕ → List (List ℕ) → Bool
 in_arms x [] = false
 in_arms x (ks ∷ arms) = cond (among x ks) true (in_arms x arms)
-
--- each row that no arm has gives a
-abbrev pub leaves : (Decoded → ℕ) → ℕ → List (List ℕ) → List Row → Bool
-leaves g a arms [] = true
-leaves g a arms (r ∷ rs) = cond (cond (in_arms r.opcode arms) true (eqb (g (known r)) a)) (leaves g a arms rs) false
 
 one_more : (x k : ℕ) (ks : List ℕ) → OneOf x ks → OneOf x (k ∷ ks)
 one_more x k [] h = absurd h
@@ -80,87 +77,134 @@ not_in x (ks ∷ arms) h e = go (among x ks) refl e (λ u. not_in x arms h.0 u)
     go true q u ih = h.1 (among_one x ks q)
     go false q u ih = ih u
 
-row_here : (g : Decoded → ℕ) (a : ℕ) (r : Row) (d : Decoded) (x : ℕ) → (r.opcode ≡ x → g (known r) ≡ a) → g d ≡ a → g (cond (eqb r.opcode x) (known r) d) ≡ a
-row_here g a r d x k l = go (eqb r.opcode x) refl
-  where
-    go : (b : Bool) → eqb r.opcode x ≡ b → g (cond b (known r) d) ≡ a
-    go true q = k (eqb-true r.opcode x q)
-    go false q = l
+module _ {A : Type 0} (same : A → A → Bool) (sound : (x y : A) → same x y ≡ true → x ≡ y) (g : Decoded → A) (a : A) (arms : List (List ℕ)) where
+  -- each row that no arm has gives a
+  abbrev pub leaves : List Row → Bool
+  leaves [] = true
+  leaves (r ∷ rs) = cond (cond (in_arms r.opcode arms) true (same (g (known r)) a)) (leaves rs) false
 
-module _ (g : Decoded → ℕ) (a : ℕ) (arms : List (List ℕ)) where
+  row_here : (r : Row) (d : Decoded) (x : ℕ) → (r.opcode ≡ x → g (known r) ≡ a) → g d ≡ a → g (cond (eqb r.opcode x) (known r) d) ≡ a
+  row_here r d x k l = go (eqb r.opcode x) refl
+    where
+      go : (b : Bool) → eqb r.opcode x ≡ b → g (cond b (known r) d) ≡ a
+      go true q = k (eqb-true r.opcode x q)
+      go false q = l
+
   row-left :
-      (r : Row) (rs : List Row) (x : ℕ) → Rest x arms → (T (leaves g a arms rs) → g (decode_in rs x) ≡ a) →
-      (b : Bool) → in_arms r.opcode arms ≡ b → (d : Bool) → eqb (g (known r)) a ≡ d →
-      T (cond (cond b true d) (leaves g a arms rs) false) → g (decode_in (r ∷ rs) x) ≡ a
-  row-left r rs x h ih true q d w v = row_here g a r (decode_in rs x) x (λ z. absurd (not_in x arms h (rw (← z) q))) (ih v)
-  row-left r rs x h ih false q true w v = row_here g a r (decode_in rs x) x (λ _. eqb-true (g (known r)) a w) (ih v)
+      (r : Row) (rs : List Row) (x : ℕ) → Rest x arms → (T (leaves rs) → g (decode_in rs x) ≡ a) →
+      (b : Bool) → in_arms r.opcode arms ≡ b → (d : Bool) → same (g (known r)) a ≡ d →
+      T (cond (cond b true d) (leaves rs) false) → g (decode_in (r ∷ rs) x) ≡ a
+  row-left r rs x h ih true q d w v = row_here r (decode_in rs x) x (λ z. absurd (not_in x arms h (rw (← z) q))) (ih v)
+  row-left r rs x h ih false q true w v = row_here r (decode_in rs x) x (λ _. sound (g (known r)) a w) (ih v)
   row-left r rs x h ih false q false w v = absurd v
 
-pub rest : (g : Decoded → ℕ) (a : ℕ) (arms : List (List ℕ)) (rs : List Row) → g unknown ≡ a → T (leaves g a arms rs) → (x : ℕ) → Rest x arms → g (decode_in rs x) ≡ a
-rest g a arms [] u t x h = u
-rest g a arms (r ∷ rs) u t x h =
-    row-left g a arms r rs x h (λ v. rest g a arms rs u v x h) (in_arms r.opcode arms) refl (eqb (g (known r)) a) refl t
+  pub rest : (rs : List Row) → g unknown ≡ a → T (leaves rs) → (x : ℕ) → Rest x arms → g (decode_in rs x) ≡ a
+  rest [] u t x h = u
+  rest (r ∷ rs) u t x h = row-left r rs x h (λ v. rest rs u v x h) (in_arms r.opcode arms) refl (same (g (known r)) a) refl t
 
--- ---- what follows from the number of what argument an instruction takes
+-- ---- tests that tell arguments and changes apart
 
--- 4 where an argument of kind k is not allowed
-abbrev fault_by : ℕ → ℕ → ℕ
-fault_by k n =
-    cond (eqb k 0) (cond (eqb n 0) 0 4)
-    (cond (eqb k 1) (cond (ltb n 1) 4 (cond (ltb 5 n) 4 0))
-    (cond (eqb k 2) (cond (ltb 15 n) 4 0) 0))
+abbrev pub same_argument : Option Argument → Option Argument → Bool
+same_argument (Some nothing) (Some nothing) = true
+same_argument (Some words) (Some words) = true
+same_argument (Some place_of_stack) (Some place_of_stack) = true
+same_argument (Some any) (Some any) = true
+same_argument None None = true
+same_argument a b = false
 
-argument_by : (a : Argument) (n : ℕ) → argument_fault a n ≡ fault_by (kind_of a) n
-argument_by nothing n = refl
-argument_by words n = refl
-argument_by place_of_stack n = refl
-argument_by any n = refl
+pub argument-sound : (a b : Option Argument) → same_argument a b ≡ true → a ≡ b
+argument-sound (Some nothing) (Some nothing) e = refl
+argument-sound (Some words) (Some words) e = refl
+argument-sound (Some place_of_stack) (Some place_of_stack) e = refl
+argument-sound (Some any) (Some any) e = refl
+argument-sound None None e = refl
+argument-sound (Some nothing) (Some words) e = cc
+argument-sound (Some nothing) (Some place_of_stack) e = cc
+argument-sound (Some nothing) (Some any) e = cc
+argument-sound (Some nothing) None e = cc
+argument-sound (Some words) (Some nothing) e = cc
+argument-sound (Some words) (Some place_of_stack) e = cc
+argument-sound (Some words) (Some any) e = cc
+argument-sound (Some words) None e = cc
+argument-sound (Some place_of_stack) (Some nothing) e = cc
+argument-sound (Some place_of_stack) (Some words) e = cc
+argument-sound (Some place_of_stack) (Some any) e = cc
+argument-sound (Some place_of_stack) None e = cc
+argument-sound (Some any) (Some nothing) e = cc
+argument-sound (Some any) (Some words) e = cc
+argument-sound (Some any) (Some place_of_stack) e = cc
+argument-sound (Some any) None e = cc
+argument-sound None (Some a) e = cc
 
-decoded_by : (d : Decoded) (n : ℕ) → argument4 d n ≡ fault_by (kind_in d) n
-decoded_by (known r) n = argument_by r.argument n
-decoded_by unknown n = refl
+abbrev pub same_change : Change → Change → Bool
+same_change (grows k) (grows l) = eqb k l
+same_change (shrinks k) (shrinks l) = eqb k l
+same_change grows_by_argument grows_by_argument = true
+same_change shrinks_by_argument shrinks_by_argument = true
+same_change a b = false
 
-pub fault_by_lem : (d : Decoded) (n k : ℕ) → k ≡ kind_in d → argument4 d n ≡ fault_by k n
-fault_by_lem d n k e = rw e (decoded_by d n)
+pub change-sound : (a b : Change) → same_change a b ≡ true → a ≡ b
+change-sound (grows k) (grows l) e = ap (λ n. (grows n)) (eqb-true k l e)
+change-sound (shrinks k) (shrinks l) e = ap (λ n. (shrinks n)) (eqb-true k l e)
+change-sound grows_by_argument grows_by_argument e = refl
+change-sound shrinks_by_argument shrinks_by_argument e = refl
+change-sound (grows k) (shrinks l) e = cc
+change-sound (grows k) grows_by_argument e = cc
+change-sound (grows k) shrinks_by_argument e = cc
+change-sound (shrinks k) (grows l) e = cc
+change-sound (shrinks k) grows_by_argument e = cc
+change-sound (shrinks k) shrinks_by_argument e = cc
+change-sound grows_by_argument (grows l) e = cc
+change-sound grows_by_argument (shrinks l) e = cc
+change-sound grows_by_argument shrinks_by_argument e = cc
+change-sound shrinks_by_argument (grows l) e = cc
+change-sound shrinks_by_argument (shrinks l) e = cc
+change-sound shrinks_by_argument grows_by_argument e = cc
 
-kind_small : (a : Argument) → kind_of a < 4
-kind_small nothing = lit< tt
-kind_small words = lit< tt
-kind_small place_of_stack = lit< tt
-kind_small any = lit< tt
+-- ---- what follows from what argument an instruction takes
 
-pub known_by : (d : Decoded) (k : ℕ) → k ≡ kind_in d → ltb k 4 ≡ known_in d
-known_by (known r) k e = rw e (lt-ltb (kind_of r.argument) 4 (kind_small r.argument))
-known_by unknown k e = rw e
+abbrev pub fault_at : Option Argument → ℕ → ℕ
+fault_at (Some a) n = argument_fault a n
+fault_at None n = 0
 
-pub unknown_by : (d : Decoded) (k : ℕ) → k ≡ kind_in d → unknown3 d ≡ cond (ltb k 4) 0 3
-unknown_by (known r) k e = rw (e, lt-ltb (kind_of r.argument) 4 (kind_small r.argument))
-unknown_by unknown k e = rw e
+pub argued : (d : Decoded) (n : ℕ) {a : Option Argument} → a ≡ argument_in d → argument4 d n ≡ fault_at a n
+argued (known r) n e = rw e
+argued unknown n e = rw e
 
-abbrev size_by : ℕ → ℕ
-size_by k = cond (eqb k 0) 1 (cond (ltb k 4) 2 1)
+pub known_by : (d : Decoded) {a : Option Argument} → a ≡ argument_in d → known_in d ≡ is_some a
+known_by (known r) e = rw e
+known_by unknown e = rw e
 
-slots_by : (a : Argument) → slots_of a ≡ size_by (kind_of a)
-slots_by nothing = refl
-slots_by words = refl
-slots_by place_of_stack = refl
-slots_by any = refl
+abbrev slots_at : Option Argument → ℕ
+slots_at (Some a) = slots_of a
+slots_at None = 1
 
-sized_by : (d : Decoded) → size_in d ≡ size_by (kind_in d)
-sized_by (known r) = slots_by r.argument
-sized_by unknown = refl
+pub sized_by : (d : Decoded) {a : Option Argument} → a ≡ argument_in d → size_in d ≡ slots_at a
+sized_by (known r) e = rw e
+sized_by unknown e = rw e
 
-pub size_by_lem : (d : Decoded) (k : ℕ) → k ≡ kind_in d → size_in d ≡ size_by k
-size_by_lem d k e = rw e (sized_by d)
+-- ---- what follows from the change of the depth
 
--- ---- what follows from the number of the change of the depth
+pub grown_is : (d : Decoded) (n : ℕ) {h : Change} → h ≡ change_in d → grown_in d n ≡ grown_by h n
+grown_is (known r) n e = rw e
+grown_is unknown n e = rw e
+
+pub shrunk_is : (d : Decoded) (n : ℕ) {h : Change} → h ≡ change_in d → shrunk_in d n ≡ shrunk_by h n
+shrunk_is (known r) n e = rw e
+shrunk_is unknown n e = rw e
 
 -- a change is below 16, or by an argument that is a number of words
+abbrev is_words : Argument → Bool
+is_words nothing = false
+is_words words = true
+is_words place_of_stack = false
+is_words any = false
+
 abbrev small : Change → Argument → Bool
 small (grows k) a = ltb k 16
 small (shrinks k) a = ltb k 16
-small grows_by_argument a = eqb (kind_of a) 1
-small shrinks_by_argument a = eqb (kind_of a) 1
+small grows_by_argument a = is_words a
+small shrinks_by_argument a = is_words a
 
 abbrev small_in : Decoded → Bool
 small_in (known r) = small r.change r.argument
@@ -186,50 +230,9 @@ table-small : (x : ℕ) → T (small_in (decode x))
 unfolding decode table
 table-small x = rows-small table tt x
 
-abbrev grown_from : ℕ → ℕ → ℕ
-grown_from c n = cond (eqb c 32) n (cond (ltb c 16) c 0)
-
-abbrev shrunk_from : ℕ → ℕ → ℕ
-shrunk_from c n = cond (eqb c 33) n (cond (ltb c 16) 0 (cond (ltb c 32) (c - 16) 0))
-
-grown_from_lem : (h : Change) (a : Argument) (n : ℕ) → T (small h a) → grown_by h n ≡ grown_from (change_of h) n
-grown_from_lem (grows k) a n t =
-    let l : k < 16 = leb→le (suc k) 16 t in
-    rw (ne_eqb k 32 (λ z. omega arith), lt-ltb k 16 l)
-grown_from_lem (shrinks k) a n t =
-    let l : k < 16 = leb→le (suc k) 16 t in
-    rw (ne_eqb (16 + k) 32 (λ z. omega arith), le-ltb (16 + k) 16 (omega arith))
-grown_from_lem grows_by_argument a n t = refl
-grown_from_lem shrinks_by_argument a n t = refl
-
-shrunk_from_lem : (h : Change) (a : Argument) (n : ℕ) → T (small h a) → shrunk_by h n ≡ shrunk_from (change_of h) n
-shrunk_from_lem (grows k) a n t =
-    let l : k < 16 = leb→le (suc k) 16 t in
-    rw (ne_eqb k 33 (λ z. omega arith), lt-ltb k 16 l)
-shrunk_from_lem (shrinks k) a n t =
-    let l : k < 16 = leb→le (suc k) 16 t in
-    let e : 16 + k - 16 ≡ k = omega arith in
-    rw (ne_eqb (16 + k) 33 (λ z. omega arith), le-ltb (16 + k) 16 (omega arith), lt-ltb (16 + k) 32 (omega arith), e)
-shrunk_from_lem grows_by_argument a n t = refl
-shrunk_from_lem shrinks_by_argument a n t = refl
-
-grown_in_lem : (d : Decoded) (n : ℕ) → T (small_in d) → grown_in d n ≡ grown_from (change_in d) n
-grown_in_lem (known r) n t = grown_from_lem r.change r.argument n t
-grown_in_lem unknown n t = refl
-
-shrunk_in_lem : (d : Decoded) (n : ℕ) → T (small_in d) → shrunk_in d n ≡ shrunk_from (change_in d) n
-shrunk_in_lem (known r) n t = shrunk_from_lem r.change r.argument n t
-shrunk_in_lem unknown n t = refl
-
-pub grown_by_lem : (x n c : ℕ) → c ≡ change_in (decode x) → grown_in (decode x) n ≡ grown_from c n
-grown_by_lem x n c e = rw e (grown_in_lem (decode x) n (table-small x))
-
-pub shrunk_by_lem : (x n c : ℕ) → c ≡ change_in (decode x) → shrunk_in (decode x) n ≡ shrunk_from c n
-shrunk_by_lem x n c e = rw e (shrunk_in_lem (decode x) n (table-small x))
-
 -- ---- an allowed argument changes the depth by less than 16
 
-words-few : (a : Argument) (n : ℕ) → T (eqb (kind_of a) 1) → argument_fault a n ≡ 0 → n < 16
+words-few : (a : Argument) (n : ℕ) → T (is_words a) → argument_fault a n ≡ 0 → n < 16
 words-few nothing n t e = absurd t
 words-few words n t e = go (ltb n 1) (ltb 5 n) refl e
   where

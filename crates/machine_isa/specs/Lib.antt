@@ -1,3 +1,3 @@
 -- What the contracts cite.
 pub mod InstructionView
-pub mod Copied
+pub mod FewWords

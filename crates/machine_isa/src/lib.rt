@@ -1,5 +1,6 @@
 // The table of instructions, and the op stack.
 #![tactic(auto)]
 
+pub mod few;
 pub mod instruction;
 pub mod op_stack;

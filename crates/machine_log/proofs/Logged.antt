@@ -1,26 +1,37 @@
 -- Laws of bytes and records in the call buffer, each behind the last one. Assumes nothing.
 use mathlib.Core.Path.{◌≡◌, refl, sym, ap, ◌∙◌}
 use mathlib.Core.Bool.{Bool, true, false}
-use mathlib.Core.List.{List, [], ◌∷◌, ◌++◌, append_assoc, append-nil}
-use Prim.Native.Nat.{ℕ, zero, suc, zero-le, ◌+◌, ◌-◌, ◌*◌, ◌/◌, ◌%◌, ◌≤◌, ◌<◌, min}
+use mathlib.Core.List.{List, [], ◌∷◌, ◌++◌, map, append_assoc, append-nil}
+use Prim.Native.Nat.{ℕ, zero, suc, zero-le, ◌+◌, ◌-◌, ◌/◌, ◌%◌, ◌^◌, ◌≤◌, ◌<◌}
 use native.Mathlib.Numerals.{add-one}
 use native.Mathlib.Nat.{add-zero}
 use native.Mathlib.Omega.{arith}
 use borrow.Author.Tests.{ltb-true, ltb-false, eq-eqb, ne_eqb}
-use lib.ListN.{length, take, drop, get_or, set, length-append, length-take, length-drop, take-append-drop, drop_of_length-le}
-use lib.Seq.{sets-eq, drop-drop, take_at, drop_at, take_all, take-suc, get_or-take}
+use borrow.Rule.Slice.PartMut.{put_mid}
+use lib.ListN.{length, take, drop, get_or, length-append, length-take, length-drop, take-append-drop, drop_of_length-le}
+use lib.Seq.{drop-drop, take_at, drop_at, take_all, take-suc, get_or-take}
 use lib.Dec.{eqb, ltb}
+use Rattle.std.specs.Int.{byte_at, bytes_low_first}
+use Rattle.std.proofs.Math.Nat.{div-div-eq-div-mul, pow-suc}
+use Rattle.std.proofs.lemmas.List.{map-append}
+use Rattle.std.proofs.lemmas.Slice.{put_mid-paste}
 use Rattle.choices.specs.Choice.{cond}
-use Rattle.machine_effects.specs.declared.effect.Effect.{Effect as Arrays}
+use Rattle.machine_effects.specs.declared.effect.Access.{Access}
+use Rattle.machine_effects.specs.declared.effect.Accesses.{Accesses}
+use Rattle.machine_effects.specs.declared.effect.Direction.{Direction}
+use Rattle.machine_effects.specs.declared.effect.Direction.TheVariants.{Read, Write}
 use Rattle.machine_effects.specs.declared.effect.U32Call.{U32Call}
 use Rattle.machine.specs.Lengths.{clock_bytes}
 use Rattle.machine.specs.Bytes.{bytes_of}
-use Rattle.machine.specs.Effect.{Call, reset, tip5, ram_read, ram_write, Effect}
+use Rattle.machine.specs.Effect.{Call, reset, tip5, Effect}
 use Rattle.machine.specs.Apply.{depth_after, stack_after}
 use Rattle.machine.specs.Machine.{Machine}
-use Rattle.machine_effects.specs.EffectView.{u32s_of, accesses_from, reads_from, writes_from, calls_of}
+use Rattle.machine_effects.specs.EffectView.{u32_of, access_of, first_accesses, accesses_of}
 use Rattle.machine.specs.Records.{Record, other, timed, stack, ram, length_of, record_bytes, log_bytes, words_bytes, clocked, call_record, call_records, growing, shrinking, stack_records, records_of}
-use Rattle.machine_log.specs.Logged.{logged, Wrote, WroteAny, FrontAny, head_bytes, tip5_bytes, u32_bytes, tip5_record, u32_record, u32_records, accesses}
+use Rattle.machine_log.specs.declared.calls.Besides.{Besides}
+use Rattle.machine_log.specs.declared.calls.Besides.TheVariants.{Nothing, Reset, First, Last}
+use Rattle.machine_log.specs.Logged.{logged, Wrote, WroteAny, FrontAny, head_bytes, tip5_bytes, u32_bytes, tip5_record, u32_record, direction_number, ram_records}
+use Rattle.machine_log.specs.Beside.{with_besides, calls_before, calls_behind}
 use Rattle.machine.proofs.Bytes.{bytes-length}
 use Rattle.machine.proofs.OpStack.{applied_below}
 use Rattle.machine.proofs.Records.{words-bytes-length, log-append, stack-grows, stack-shrinks}
@@ -61,26 +72,35 @@ logged_back b ys r at h e =
 
 -- ---- stores
 
-pub store_one : (b : List ℕ) (at x : ℕ) → at < length b → set b at x ≡ logged b at (x ∷ [])
+pub put_logged : (b r : List ℕ) (at k : ℕ) → length r ≡ k → put_mid at k b r ≡ logged b at r
 unfolding logged
-store_one b at x h = sets-eq (x ∷ []) b at (omega arith)
+put_logged b r at k h = put_mid-paste at k b r r k refl refl (sym h) ∙ rw (take_all k r (omega arith), h)
 
-pub store_two : (b : List ℕ) (at x y : ℕ) → at + 2 ≤ length b → set (set b at x) (at + 1) y ≡ logged b at (x ∷ y ∷ [])
-unfolding logged
-store_two b at x y h = rw add-one (sets-eq (x ∷ y ∷ []) b at h)
+-- the bytes of a number as std has them
+byte_is : (i n : ℕ) → byte_at i n ≡ n / 256 ^ i % 256
+byte_is zero n = let e : n ≡ n / 256 ^ 0 = omega arith in ap (λ (x : ℕ). x % 256) e
+byte_is (suc i) n = refl
 
--- the first bytes, then the rest
-pub bytes_two : (v : ℕ) → bytes_of 2 v ≡ v % 256 ∷ v / 256 % 256 ∷ []
+low-bytes : (k i n : ℕ) → bytes_low_first i k n ≡ bytes_of k (n / 256 ^ i)
 unfolding bytes_of
-bytes_two v = refl
+low-bytes zero i n = refl
+low-bytes (suc k) i n =
+    let e : n / 256 ^ suc i ≡ n / 256 ^ i / 256 = ap (λ (x : ℕ). n / x) (pow-suc 256 i) ∙ sym (div-div-eq-div-mul n (256 ^ i) 256) in
+    rw (byte_is i n) (ap (λ (r : List ℕ). n / 256 ^ i % 256 ∷ r) (low-bytes k (suc i) n ∙ ap (bytes_of k) e))
 
-pub bytes_four : (v : ℕ) → bytes_of 2 v ++ bytes_of 2 (v / 256 / 256) ≡ bytes_of 4 v
-unfolding bytes_of
-bytes_four v = refl
+low-all : (k n : ℕ) → bytes_low_first 0 k n ≡ bytes_of k n
+low-all k n = low-bytes k 0 n ∙ ap (bytes_of k) (omega arith)
 
-pub bytes_eight : (v : ℕ) → bytes_of 4 v ++ bytes_of 4 (v / 256 / 256 / 256 / 256) ≡ bytes_of 8 v
+-- a number of k bytes, written as std makes them
+pub number_put : (k v : ℕ) (b : List ℕ) (at : ℕ) {b2 bytes : List ℕ} → b2 ≡ logged b at bytes → bytes ≡ bytes_low_first 0 k v → b2 ≡ logged b at (bytes_of k v)
+number_put k v b at e f = e ∙ ap (logged b at) (f ∙ low-all k v)
+
+pub bytes_two : (v : ℕ) → bytes_of 2 (v % 65536) ≡ bytes_of 2 v
 unfolding bytes_of
-bytes_eight v = refl
+bytes_two v =
+    let a : v % 65536 % 256 ≡ v % 256 = omega arith in
+    let b : v % 65536 / 256 % 256 ≡ v / 256 % 256 = omega arith in
+    rw (a, b)
 
 -- ---- words
 
@@ -270,39 +290,10 @@ row-all t s d d2 n e = go (ltb d d2) refl
     go true h = let l = ltb-true d d2 h in let k : n ≡ d2 - d = omega arith in rw k (sym (stack-grows t s s d d2 (omega arith)))
     go false h = let l = ltb-false d d2 h in let k : n ≡ d - d2 = omega arith in rw k (sym (stack-shrinks t s s d d2 l))
 
-pub accesses-more : (t : ℕ) (a v : List ℕ) (dir i n : ℕ) → accesses t a v dir i n ++ (ram t (get_or a (i + n) 0) (get_or v (i + n) 0) dir ∷ []) ≡ accesses t a v dir i (n + 1)
-unfolding accesses
-accesses-more t a v dir i n = rw add-one
-
--- one call of the U32 table, and both
-pub u32s-none : (v t n : ℕ) (a b : U32Call) → n ≡ 0 → [] ≡ u32_records v t n a b
-unfolding u32_records
-u32s-none v t n a b e = rw e
-
-pub u32s_one : (v t n : ℕ) (a b : U32Call) → n ≡ 1 → u32_record v t a ∷ [] ≡ u32_records v t n a b
-unfolding u32_records
-u32s_one v t n a b e = rw e
-
-pub u32s_two : (v t n : ℕ) (a b : U32Call) → 2 ≤ n → (u32_record v t a ∷ []) ++ (u32_record v t b ∷ []) ≡ u32_records v t n a b
-unfolding u32_records
-u32s_two v t zero a b h = absurd (omega arith)
-u32s_two v t (suc zero) a b h = absurd (omega arith)
-u32s_two v t (suc (suc n)) a b h = refl
-
--- their bytes, k each
-pub bytes-none : (k n : ℕ) → n ≡ 0 → 0 ≡ k * min n 2
-bytes-none k n e = rw e (omega arith)
-
-pub bytes_one : (k n : ℕ) → n ≡ 1 → k ≡ k * min n 2
-bytes_one k n e = rw e (omega arith)
-
-pub bytes_two_calls : (k n : ℕ) → 2 ≤ n → k + k ≡ k * min n 2
-bytes_two_calls k n h = let e : min n 2 ≡ 2 = omega arith in rw e (omega arith)
-
-pub bytes_some : (k n : ℕ) → (n ≡ 0 → ⊥) → k ≤ k * min n 2
-bytes_some k zero h = absurd (h refl)
-bytes_some k (suc zero) h = omega (arith, bytes_one k 1 refl)
-bytes_some k (suc (suc n)) h = omega (arith, bytes_two_calls k (suc (suc n)) (omega arith))
+pub ram-more : (t : ℕ) (d : Direction) (s : List Access) (n : ℕ) (e : Access) → n < length s →
+    ram_records t d s n ++ (ram t (get_or s n e).address (get_or s n e).value (direction_number d) ∷ []) ≡ ram_records t d s (n + 1)
+unfolding ram_records
+ram-more t d s n e h = rw (add-one n, take-suc s n e h, map-append)
 
 -- ---- an effect's calls
 
@@ -311,58 +302,43 @@ unfolding call_records
 calls-append v t [] ds = refl
 calls-append v t (c ∷ cs) ds = rw (calls-append v t cs ds)
 
-u32s_are : (v t n : ℕ) (a b : U32Call) → call_records v t (u32s_of n a b) ≡ u32_records v t n a b
-unfolding call_records call_record u32s_of u32_records
-u32s_are v t zero a b = refl
-u32s_are v t (suc zero) a b = refl
-u32s_are v t (suc (suc n)) a b = refl
-
-access_last : (f : ℕ → ℕ → Call) (a w : List ℕ) (i n : ℕ) → accesses_from f a w i (suc n) ≡ accesses_from f a w i n ++ (f (get_or a (i + n) 0) (get_or w (i + n) 0) ∷ [])
-unfolding accesses_from
-access_last f a w i zero = rw add-zero
-access_last f a w i (suc n) =
-    let e : i + 1 + n ≡ i + suc n = omega arith in
-    ap (λ (cs : List Call). f (get_or a i 0) (get_or w i 0) ∷ cs) (rw e at (access_last f a w (i + 1) n))
-
--- accesses whose records go one way
-module _ (v t d : ℕ) (f : ℕ → ℕ → Call) (way : (a x : ℕ) → call_record v t (f a x) ≡ ram t a x d) where
-  accesses_are : (a w : List ℕ) (i n : ℕ) → call_records v t (accesses_from f a w i n) ≡ accesses t a w d i n
-  unfolding call_records accesses_from accesses
-  accesses_are a w i zero = refl
-  accesses_are a w i (suc n) =
-      ap (call_records v t) (access_last f a w i n)
-      ∙ calls-append v t (accesses_from f a w i n) _
-      ∙ rw (accesses_are a w i n, way)
-
-reads_are : (v t : ℕ) (a w : List ℕ) (i n : ℕ) → call_records v t (reads_from a w i n) ≡ accesses t a w 0 i n
-unfolding call_record
-reads_are v t a w i n = accesses_are v t 0 ram_read (λ b x. refl) a w i n
-
-writes_are : (v t : ℕ) (a w : List ℕ) (i n : ℕ) → call_records v t (writes_from a w i n) ≡ accesses t a w 1 i n
-unfolding call_record
-writes_are v t a w i n = accesses_are v t 1 ram_write (λ b x. refl) a w i n
-
-pub calls_are : (v t : ℕ) (e : Arrays) →
-    (u32_records v t e.u32s e.u32_0 e.u32_1 ++ accesses t e.addresses e.values 0 0 e.reads) ++ accesses t e.addresses e.values 1 e.reads e.writes
-    ≡ call_records v t (calls_of e)
-calls_are v t e =
-    sym (calls-append v t (u32s_of e.u32s e.u32_0 e.u32_1 ++ reads_from e.addresses e.values 0 e.reads) _
-    ∙ rw (calls-append v t (u32s_of e.u32s e.u32_0 e.u32_1) (reads_from e.addresses e.values 0 e.reads), u32s_are, reads_are, writes_are))
-
--- a reset first
-pub reset-first : (v t : ℕ) (cs : List Call) (rs : List Record) → (other 1 [] ∷ []) ++ call_records v t cs ++ rs ≡ call_records v t (reset ∷ cs) ++ rs
+pub u32_is : (v t : ℕ) (a : U32Call) → u32_record v t a ∷ [] ≡ call_records v t (u32_of a ∷ [])
 unfolding call_records call_record
-reset-first v t cs rs = refl
+u32_is v t a = refl
 
--- a Tip5 record first, and behind the calls
-pub tip5-first : (v t o : ℕ) (trace : List ℕ) (cs : List Call) (rs : List Record) → (tip5_record v t o trace ∷ []) ++ call_records v t cs ++ rs ≡ call_records v t (tip5 o trace ∷ cs) ++ rs
+pub tip5_is : (v t o : ℕ) (trace : List ℕ) → tip5_record v t o trace ∷ [] ≡ call_records v t (tip5 o trace ∷ [])
 unfolding call_records call_record
-tip5-first v t o trace cs rs = refl
+tip5_is v t o trace = refl
 
-pub tip5-last : (v t o : ℕ) (trace : List ℕ) (cs : List Call) (rs : List Record) →
-    call_records v t cs ++ (tip5_record v t o trace ∷ []) ++ rs ≡ call_records v t (cs ++ (tip5 o trace ∷ [])) ++ rs
+pub reset_is : (v t : ℕ) → other 1 [] ∷ [] ≡ call_records v t (reset ∷ [])
 unfolding call_records call_record
-tip5-last v t o trace cs rs = rw (calls-append v t cs (tip5 o trace ∷ []))
+reset_is v t = refl
+
+pub no_calls : (v t : ℕ) → [] ≡ call_records v t []
+unfolding call_records
+no_calls v t = refl
+
+rams_are : (v t : ℕ) (d : Direction) (s : List Access) → map (λ a. ram t a.address a.value (direction_number d)) s ≡ call_records v t (map (access_of d) s)
+unfolding call_records call_record
+rams_are v t d [] = refl
+rams_are v t Read (x ∷ s) = ap (λ (r : List Record). ram t x.address x.value 0 ∷ r) (rams_are v t Read s)
+rams_are v t Write (x ∷ s) = ap (λ (r : List Record). ram t x.address x.value 1 ∷ r) (rams_are v t Write s)
+
+pub accesses_are : (v t : ℕ) (a : Accesses) → ram_records t a.direction a.cells a.count ≡ call_records v t (accesses_of a)
+unfolding ram_records first_accesses
+accesses_are v t a = rams_are v t a.direction (take a.count a.cells)
+
+-- what is recorded besides, with an effect's calls
+pub besides_are : (v t : ℕ) (x : Besides) (cs : List Call) →
+    call_records v t (calls_before x) ++ call_records v t cs ++ call_records v t (calls_behind x) ≡ call_records v t (with_besides x cs)
+besides_are v t Nothing cs = rw (← no_calls v t) (append-nil (call_records v t cs))
+besides_are v t Reset cs = rw (← no_calls v t, append-nil) (sym (calls-append v t (reset ∷ []) cs))
+besides_are v t (First o r) cs = rw (← no_calls v t, append-nil) (sym (calls-append v t (tip5 o r.now ∷ []) cs))
+besides_are v t (Last o r) cs = rw (← no_calls v t) (sym (calls-append v t cs (tip5 o r.now ∷ [])))
+
+-- the same records by other names
+pub wrote_as : {v : ℕ} {b b2 : List ℕ} {at n m next : ℕ} {rs ss : List Record} → Wrote v b b2 at rs n next → rs ≡ ss → n ≡ m → Wrote v b b2 at ss m next
+wrote_as {v} {b} {b2} {at} w e f = record { is = w.is ∙ ap (λ (r : List Record). logged b at (log_bytes v r)) e; size = ap (λ (r : List Record). length (log_bytes v r)) (sym e) ∙ w.size ∙ f; end = omega (arith, w.end, f) }
 
 -- ---- the op stack's records
 

@@ -1,3 +1,4 @@
 -- What the contracts cite.
 pub mod Logged
 pub mod Kinds
+pub mod Beside

@@ -1,6 +1,11 @@
 -- Records in the call buffer, each behind the last one.
-use Rattle.std.specs.Prelude.{◌≡◌, List, [], ◌∷◌, ◌++◌, ℕ, zero, suc, ◌+◌, ◌-◌, ◌*◌, ◌≤◌, min, length, get_or, take, drop, eqb}
-use Rattle.machine_effects.specs.declared.effect.Effect.{Effect as Arrays}
+use Rattle.std.specs.Prelude.{◌≡◌, List, ◌++◌, ℕ, ◌+◌, ◌-◌, ◌*◌, ◌≤◌, length, map, take, drop, eqb}
+use Rattle.machine_effects.specs.declared.effect.Effect.{Effect}
+use Rattle.machine_effects.specs.declared.effect.Access.{Access}
+use Rattle.machine_effects.specs.declared.effect.Direction.{Direction}
+use Rattle.machine_effects.specs.declared.effect.Direction.TheVariants.{Read, Write}
+use Rattle.machine_effects.specs.declared.effect.U32Calls.{U32Calls}
+use Rattle.machine_effects.specs.declared.effect.U32Calls.TheVariants.{Zero, One, Two}
 use Rattle.machine_effects.specs.declared.effect.U32Call.{U32Call}
 use Rattle.choices.specs.Choice.{cond}
 use Rattle.machine.specs.Lengths.{clock_bytes}
@@ -45,27 +50,26 @@ tip5_record v t opcode trace = clocked v t 2 (bytes_of 2 opcode ++ words_bytes t
 abbrev pub u32_record : ℕ → ℕ → U32Call → Record
 u32_record v t c = clocked v t 3 (bytes_of 2 c.opcode ++ bytes_of 8 c.left ++ bytes_of 8 c.right)
 
--- those of the first n of two calls
-unfoldable pub u32_records : ℕ → ℕ → ℕ → U32Call → U32Call → List Record
-u32_records v t zero a b = []
-u32_records v t (suc zero) a b = u32_record v t a ∷ []
-u32_records v t (suc (suc n)) a b = u32_record v t a ∷ u32_record v t b ∷ []
+-- how many calls of the U32 table there are
+abbrev pub u32_count : U32Calls → ℕ
+u32_count Zero = 0
+u32_count (One a) = 1
+u32_count (Two a b) = 2
 
--- n accesses of RAM from place i on of two lists, in one direction
-unfoldable pub accesses : ℕ → List ℕ → List ℕ → ℕ → ℕ → ℕ → List Record
-accesses t a v dir i zero = []
-accesses t a v dir i (suc n) = accesses t a v dir i n ++ (ram t (get_or a (i + n) 0) (get_or v (i + n) 0) dir ∷ [])
+abbrev pub direction_number : Direction → ℕ
+direction_number Read = 0
+direction_number Write = 1
+
+-- the first n accesses of RAM of a list, in one direction
+unfoldable pub ram_records : ℕ → Direction → List Access → ℕ → List Record
+ram_records t d s n = map (λ a. ram t a.address a.value (direction_number d)) (take n s)
 
 -- how many bytes an effect's calls take in a log of revision v, and a change of the depth
-abbrev pub call_bytes : ℕ → Arrays → ℕ
-call_bytes v e = u32_bytes v * min e.u32s 2 + 25 * e.reads + 25 * e.writes
+abbrev pub call_bytes : ℕ → Effect → ℕ
+call_bytes v e = u32_bytes v * u32_count e.u32s + 25 * e.accesses.count
 
 abbrev pub stack_bytes : ℕ → ℕ → ℕ
 stack_bytes d d2 = 25 * (d2 - d) + 25 * (d - d2)
-
--- an effect has no more accesses of RAM than its arrays hold
-abbrev pub Countable : Arrays → Type 0
-Countable e = e.reads + e.writes ≤ 10
 
 -- both depths are at least 16 and within the stack
 pub record Deep (s : List ℕ) (d d2 : ℕ) : Type 0 where
@@ -73,9 +77,3 @@ pub record Deep (s : List ℕ) (d d2 : ℕ) : Type 0 where
   pub low2 : 16 ≤ d2
   pub high : d ≤ length s
   pub high2 : d2 ≤ length s
-
--- what a step asks for, of a log of revision v, that writes more bytes besides those of an effect
-pub record LogRoom (v more : ℕ) (e : Arrays) (s b : List ℕ) (d d2 : ℕ) : Type 0 where
-  pub count : Countable e
-  pub deep : Deep s d d2
-  pub room : more + call_bytes v e + stack_bytes d d2 ≤ length b

@@ -1,51 +1,28 @@
 // A step's records in the lent call buffer, each written into the part behind the last one.
-ghost use Rattle.std.specs.Prelude.{◌≡◌, [] as Nil, ◌∷◌, ◌++◌, ◌+◌, ◌-◌, ◌*◌, ◌%◌, ◌≤◌, ◌<◌, min, ltb, length};
+ghost use Rattle.std.specs.Prelude.{◌≡◌, [] as Nil, ◌∷◌, ◌++◌, ◌+◌, ◌-◌, ◌*◌, ◌≤◌, ◌<◌, min, ltb, length};
 ghost use Rattle.choices.specs.Choice.{cond};
 ghost use Rattle.machine.specs.Bytes.{bytes_of};
 ghost use Rattle.machine.specs.Records.{other, stack as stacked, ram, record_bytes, words_bytes, stack_records, call_records};
-ghost use Rattle.machine.specs.Effect.{reset, tip5};
-ghost use Rattle.machine_effects.specs.EffectView.{calls_of};
-ghost use Rattle.machine_log.specs.Logged.{logged, Wrote, WroteAny, FrontAny, tip5_bytes, u32_bytes, accesses, call_bytes, stack_bytes, Countable, Deep, LogRoom, tip5_record, u32_record, u32_records};
+ghost use Rattle.machine_effects.specs.EffectView.{u32s_of, calls_of};
+ghost use Rattle.machine_log.specs.Logged.{logged, Wrote, WroteAny, FrontAny, tip5_bytes, u32_bytes, u32_count, direction_number, ram_records, call_bytes, stack_bytes, Deep, tip5_record, u32_record};
+ghost use Rattle.machine_log.specs.Beside.{with_besides, calls_before, calls_behind, bytes_before, bytes_behind, besides_bytes, LogRoom};
 
-use machine_effects::effect::{Effect, U32Call};
-use machine_isa::op_stack::over;
+use machine_effects::effect::{Access, Accesses, Direction, Effect, U32Call, U32Calls};
 
-// The lowest byte.
-fn byte(v: u64) -> u8
-    ensures { result ≡ v % 256 }
+// The bytes go to place `at`.
+fn put<const K: usize>(b: &mut [u8], at: usize, bytes: [u8; K])
+    requires { at + K ≤ length b.old }
+    ensures { b.new ≡ logged b.old at bytes.entry }
 {
-    (v % 256) as u8
+    b[at..at + K].copy_from_slice(&bytes);
 }
 
-fn put1(b: &mut [u8], at: usize, v: u8)
-    requires { at < length b.old }
-    ensures { b.new ≡ logged b.old at (v ∷ Nil) }
-{
-    b[at] = v;
-}
-
-fn put2(b: &mut [u8], at: usize, v: u64)
+// The two lower bytes.
+fn put_opcode(b: &mut [u8], at: usize, opcode: u64)
     requires { at + 2 ≤ length b.old }
-    ensures { b.new ≡ logged b.old at (bytes_of 2 v) }
+    ensures { b.new ≡ logged b.old at (bytes_of 2 opcode) }
 {
-    b[at] = byte(v);
-    b[at + 1] = byte(v / 256);
-}
-
-fn put4(b: &mut [u8], at: usize, v: u64)
-    requires { at + 4 ≤ length b.old }
-    ensures { b.new ≡ logged b.old at (bytes_of 4 v) }
-{
-    put2(b, at, v);
-    put2(b, at + 2, v / 256 / 256);
-}
-
-fn put8(b: &mut [u8], at: usize, v: u64)
-    requires { at + 8 ≤ length b.old }
-    ensures { b.new ≡ logged b.old at (bytes_of 8 v) }
-{
-    put4(b, at, v);
-    put4(b, at + 4, v / 256 / 256 / 256 / 256);
+    put(b, at, ((opcode % 0x1_0000) as u16).to_le_bytes());
 }
 
 // Eight bytes for each word.
@@ -53,11 +30,16 @@ fn put_words(b: &mut [u8], at: usize, words: &[u64])
     requires { at + 8 * length words.now ≤ length b.old }
     ensures { b.new ≡ logged b.old at (words_bytes words.now) }
 {
-    let mut i = 0;
-    while i < words.len() {
-        put8(b, at + 8 * i, words[i]);
-        i += 1;
+    for (i, word) in words.iter().enumerate() {
+        put(b, at + 8 * i, word.to_le_bytes());
     }
+}
+
+// 0 for a read, 1 for a write.
+fn number(direction: Direction) -> u8
+    ensures { result ≡ direction_number direction }
+{
+    direction as u8
 }
 
 // ---- one record of each kind, at the start of what is lent; its length and kind are one store, length + 65536 * kind
@@ -66,7 +48,7 @@ fn reset_record(b: &mut [u8])
     requires { 4 ≤ length b.old }
     ensures { FrontAny b.old b.new (other 1 Nil) }
 {
-    put4(b, 0, 65538);
+    put(b, 0, 65538u32.to_le_bytes());
 }
 
 // Each gives how many bytes it takes. In revision 2 length and kind are larger by 4, and the clock stands before the fields; the places are written
@@ -77,14 +59,14 @@ fn tip5_record(b: &mut [u8], revision: u64, clock: u32, opcode: u64, trace: &[u6
     ensures { (b.new ≡ logged b.old 0 (record_bytes revision (tip5_record revision clock opcode trace.now))) × (result ≡ tip5_bytes revision) }
 {
     if revision == 2 {
-        put4(b, 0, 393992);
-        put4(b, 4, clock as u64); // that before the step
-        put2(b, 8, opcode);
+        put(b, 0, 393992u32.to_le_bytes());
+        put(b, 4, clock.to_le_bytes()); // that before the step
+        put_opcode(b, 8, opcode);
         put_words(b, 10, trace);
         return 778;
     }
-    put4(b, 0, 131844);
-    put2(b, 4, opcode);
+    put(b, 0, 131844u32.to_le_bytes());
+    put_opcode(b, 4, opcode);
     put_words(b, 6, trace);
     774
 }
@@ -94,40 +76,40 @@ fn u32_record(b: &mut [u8], revision: u64, clock: u32, call: U32Call) -> usize
     ensures { (b.new ≡ logged b.old 0 (record_bytes revision (u32_record revision clock call))) × (result ≡ u32_bytes revision) }
 {
     if revision == 2 {
-        put4(b, 0, 458776);
-        put4(b, 4, clock as u64);
-        put2(b, 8, call.opcode);
-        put8(b, 10, call.left);
-        put8(b, 18, call.right);
+        put(b, 0, 458776u32.to_le_bytes());
+        put(b, 4, clock.to_le_bytes());
+        put_opcode(b, 8, call.opcode);
+        put(b, 10, call.left.to_le_bytes());
+        put(b, 18, call.right.to_le_bytes());
         return 26;
     }
-    put4(b, 0, 196628);
-    put2(b, 4, call.opcode);
-    put8(b, 6, call.left);
-    put8(b, 14, call.right);
+    put(b, 0, 196628u32.to_le_bytes());
+    put_opcode(b, 4, call.opcode);
+    put(b, 6, call.left.to_le_bytes());
+    put(b, 14, call.right.to_le_bytes());
     22
 }
 
-fn stack_record(b: &mut [u8], clock: u32, pointer: u64, dir: u8, value: u64)
+fn stack_record(b: &mut [u8], clock: u32, pointer: u64, direction: Direction, value: u64)
     requires { 25 ≤ length b.old }
-    ensures { FrontAny b.old b.new (stacked clock pointer dir value) }
+    ensures { FrontAny b.old b.new (stacked clock pointer (direction_number direction) value) }
 {
-    put4(b, 0, 262167);
-    put4(b, 4, clock as u64);
-    put8(b, 8, pointer);
-    put1(b, 16, dir);
-    put8(b, 17, value);
+    put(b, 0, 262167u32.to_le_bytes());
+    put(b, 4, clock.to_le_bytes());
+    put(b, 8, pointer.to_le_bytes());
+    put(b, 16, [number(direction)]);
+    put(b, 17, value.to_le_bytes());
 }
 
-fn ram_record(b: &mut [u8], clock: u32, address: u64, value: u64, dir: u8)
+fn ram_record(b: &mut [u8], clock: u32, access: Access, direction: Direction)
     requires { 25 ≤ length b.old }
-    ensures { FrontAny b.old b.new (ram clock address value dir) }
+    ensures { FrontAny b.old b.new (ram clock access.address access.value (direction_number direction)) }
 {
-    put4(b, 0, 327703);
-    put4(b, 4, clock as u64);
-    put8(b, 8, address);
-    put8(b, 16, value);
-    put1(b, 24, dir);
+    put(b, 0, 327703u32.to_le_bytes());
+    put(b, 4, clock.to_le_bytes());
+    put(b, 8, access.address.to_le_bytes());
+    put(b, 16, access.value.to_le_bytes());
+    put(b, 24, [number(direction)]);
 }
 
 // ---- the same behind place `at`; each gives the next place
@@ -156,75 +138,65 @@ fn log_u32(b: &mut [u8], at: usize, revision: u64, clock: u32, call: U32Call) ->
     at + n
 }
 
-fn log_stack(b: &mut [u8], at: usize, clock: u32, pointer: u64, dir: u8, value: u64) -> usize
+fn log_stack(
+    b: &mut [u8],
+    at: usize,
+    clock: u32,
+    pointer: u64,
+    direction: Direction,
+    value: u64,
+) -> usize
     requires { at + 25 ≤ length b.old }
-    ensures { WroteAny b.old b.new at (stacked clock pointer dir value ∷ Nil) 25 result }
+    ensures { WroteAny b.old b.new at (stacked clock pointer (direction_number direction) value ∷ Nil) 25 result }
 {
-    stack_record(&mut b[at..], clock, pointer, dir, value);
+    stack_record(&mut b[at..], clock, pointer, direction, value);
     at + 25
 }
 
-fn log_ram(b: &mut [u8], at: usize, clock: u32, address: u64, value: u64, dir: u8) -> usize
+fn log_ram(b: &mut [u8], at: usize, clock: u32, access: Access, direction: Direction) -> usize
     requires { at + 25 ≤ length b.old }
-    ensures { WroteAny b.old b.new at (ram clock address value dir ∷ Nil) 25 result }
+    ensures { WroteAny b.old b.new at (ram clock access.address access.value (direction_number direction) ∷ Nil) 25 result }
 {
-    ram_record(&mut b[at..], clock, address, value, dir);
+    ram_record(&mut b[at..], clock, access, direction);
     at + 25
 }
 
 // ---- runs of records
 
-// The first n of two calls of the U32 table, both where n is more.
-fn log_u32s(
-    b: &mut [u8],
-    at: usize,
-    revision: u64,
-    clock: u32,
-    n: usize,
-    first: U32Call,
-    second: U32Call,
-) -> usize
-    requires { at + u32_bytes revision * min n 2 ≤ length b.old }
-    ensures { Wrote revision b.old b.new at (u32_records revision clock n first second) (u32_bytes revision * min n 2) result }
+fn log_u32s(b: &mut [u8], at: usize, revision: u64, clock: u32, calls: U32Calls) -> usize
+    requires { at + u32_bytes revision * u32_count calls ≤ length b.old }
+    ensures { Wrote revision b.old b.new at (call_records revision clock (u32s_of calls)) (u32_bytes revision * u32_count calls) result }
 {
-    if n == 0 {
-        return at;
+    match calls {
+        U32Calls::Zero => at,
+        U32Calls::One(call) => log_u32(b, at, revision, clock, call),
+        U32Calls::Two(first, second) => {
+            let next = log_u32(b, at, revision, clock, first);
+            log_u32(b, next, revision, clock, second)
+        }
     }
-    let next = log_u32(b, at, revision, clock, first);
-    if n == 1 {
-        return next;
-    }
-    log_u32(b, next, revision, clock, second)
 }
 
-// n accesses of RAM in one direction, from place `from` of the arrays on.
-fn log_accesses(
-    b: &mut [u8],
-    at: usize,
-    clock: u32,
-    addresses: [u64; 10],
-    values: [u64; 10],
-    from: usize,
-    n: usize,
-    dir: u8,
-) -> usize
-    requires { (at + 25 * n ≤ length b.old) × (from + n ≤ 10) }
-    ensures { WroteAny b.old b.new at (accesses clock addresses values dir from n) (25 * n) result }
+fn log_accesses(b: &mut [u8], at: usize, clock: u32, accesses: &Accesses) -> usize
+    requires { at + 25 * accesses.now.count ≤ length b.old }
+    ensures { WroteAny b.old b.new at (ram_records clock accesses.now.direction accesses.now.cells accesses.now.count) (25 * accesses.now.count) result }
 {
     let mut next = at;
-    let mut i = 0;
-    while i < n {
-        next = log_ram(b, next, clock, addresses[from + i], values[from + i], dir);
-        i += 1;
+    for i in 0..accesses.count {
+        next = log_ram(b, next, clock, accesses.cells[i], accesses.direction);
     }
     next
 }
 
-// 1, a write, where the depth grows; else 0, a read.
-fn direction(depth: usize, after: usize) -> u8
-    ensures { result ≡ cond (ltb depth after) 1 0 }
+// A write where the depth grows, else a read.
+fn direction(depth: usize, after: usize) -> Direction
+    ensures { direction_number result ≡ cond (ltb depth after) 1 0 }
 {
-    if depth < after { 1 } else { 0 }
+    if depth < after {
+        Direction::Write
+    } else {
+        Direction::Read
+    }
 }
 
 // The pointer of record i: upward from the depth, or downward from below it.
@@ -252,125 +224,77 @@ pub fn log_depth(
     requires { (at + stack_bytes depth after ≤ length b.old) × Deep stack.now depth after }
     ensures { WroteAny b.old b.new at (stack_records clock stack.now stack.now depth after) (stack_bytes depth after) result }
 {
-    let n = over(after, depth) + over(depth, after);
-    let dir = direction(depth, after);
+    let way = direction(depth, after);
     let mut next = at;
-    let mut i = 0;
-    while i < n {
+    for i in 0..after.abs_diff(depth) {
         let q = pointer(depth, after, i);
-        next = log_stack(b, next, clock, q as u64, dir, stack[q - 16]);
-        i += 1;
+        next = log_stack(b, next, clock, q as u64, way, stack[q - 16]);
     }
     next
 }
 
-// An effect's own calls: of the U32 table, then reads, then writes.
-fn log_calls(b: &mut [u8], at: usize, revision: u64, clock: u32, effect: Effect) -> usize
-    requires { (at + call_bytes revision effect ≤ length b.old) × Countable effect }
-    ensures { Wrote revision b.old b.new at (call_records revision clock (calls_of effect)) (call_bytes revision effect) result }
+// An effect's own calls: of the U32 table, then of RAM.
+fn log_calls(b: &mut [u8], at: usize, revision: u64, clock: u32, effect: &Effect) -> usize
+    requires { at + call_bytes revision effect.now ≤ length b.old }
+    ensures { Wrote revision b.old b.new at (call_records revision clock (calls_of effect.now)) (call_bytes revision effect.now) result }
 {
-    let addresses = effect.addresses;
-    let values = effect.values;
-    let first = effect.u32_0;
-    let second = effect.u32_1;
-    let next = log_u32s(b, at, revision, clock, effect.u32s, first, second);
-    let then = log_accesses(b, next, clock, addresses, values, 0, effect.reads, 0);
-    log_accesses(
-        b,
-        then,
-        clock,
-        addresses,
-        values,
-        effect.reads,
-        effect.writes,
-        1,
-    )
+    let next = log_u32s(b, at, revision, clock, effect.u32s);
+    log_accesses(b, next, clock, &effect.accesses)
 }
 
-// ---- the records of a step, from the start of the buffer on; each gives how many bytes they take
+// What a step records besides its effect's calls and the op stack's: a reset of the sponge before them, or, under an opcode, a
+// trace before the effect's calls or behind them.
+#[derive(Clone, Copy)]
+pub enum Besides<'a> {
+    Nothing,
+    Reset,
+    First(u64, &'a [u64; 96]),
+    Last(u64, &'a [u64; 96]),
+}
 
-// `stack` is the stack after the step. Below the words that a step takes off it is the stack before it too, and there lie
-// the words of a shrinking step's records.
-//
-// A plain effect's calls, then the op stack's.
-pub fn write_plain(
+fn log_before(b: &mut [u8], revision: u64, clock: u32, besides: Besides<'_>) -> usize
+    requires { bytes_before revision besides ≤ length b.old }
+    ensures { Wrote revision b.old b.new 0 (call_records revision clock (calls_before besides.entry)) (bytes_before revision besides.entry) result }
+{
+    match besides {
+        Besides::Reset => log_reset(b, 0),
+        Besides::First(opcode, trace) => log_tip5(b, 0, revision, clock, opcode, trace),
+        Besides::Nothing => 0,
+        Besides::Last(_, _) => 0,
+    }
+}
+
+fn log_behind(b: &mut [u8], at: usize, revision: u64, clock: u32, besides: Besides<'_>) -> usize
+    requires { at + bytes_behind revision besides ≤ length b.old }
+    ensures { Wrote revision b.old b.new at (call_records revision clock (calls_behind besides.entry)) (bytes_behind revision besides.entry) result }
+{
+    match besides {
+        Besides::Last(opcode, trace) => log_tip5(b, at, revision, clock, opcode, trace),
+        Besides::Nothing => at,
+        Besides::Reset => at,
+        Besides::First(_, _) => at,
+    }
+}
+
+// The records of a step, from the start of the buffer on; gives how many bytes they take. `stack` is the stack after the step.
+// Below the words that a step takes off it is the stack before it too, and there lie the words of a shrinking step's records.
+pub fn write(
     b: &mut [u8],
     revision: u64,
     clock: u32,
-    effect: Effect,
+    besides: Besides<'_>,
+    effect: &Effect,
     stack: &[u64],
     depth: usize,
     after: usize,
 ) -> usize
-    requires { LogRoom revision 0 effect stack.now b.old depth after }
+    requires { LogRoom revision besides effect.now stack.now b.old depth after }
     ensures { Wrote revision b.old b.new 0
-        (call_records revision clock (calls_of effect) ++ stack_records clock stack.now stack.now depth after)
-        (call_bytes revision effect + stack_bytes depth after) result }
+        (call_records revision clock (with_besides besides.entry (calls_of effect.now)) ++ stack_records clock stack.now stack.now depth after)
+        (besides_bytes revision besides.entry + call_bytes revision effect.now + stack_bytes depth after) result }
 {
-    let next = log_calls(b, 0, revision, clock, effect);
-    log_depth(b, next, clock, stack, depth, after)
-}
-
-// A sponge reset first.
-pub fn write_reset(
-    b: &mut [u8],
-    revision: u64,
-    clock: u32,
-    effect: Effect,
-    stack: &[u64],
-    depth: usize,
-    after: usize,
-) -> usize
-    requires { LogRoom revision 4 effect stack.now b.old depth after }
-    ensures { Wrote revision b.old b.new 0
-        (call_records revision clock (reset ∷ calls_of effect) ++ stack_records clock stack.now stack.now depth after)
-        (4 + call_bytes revision effect + stack_bytes depth after) result }
-{
-    let next = log_reset(b, 0);
+    let next = log_before(b, revision, clock, besides);
     let then = log_calls(b, next, revision, clock, effect);
-    log_depth(b, then, clock, stack, depth, after)
-}
-
-// A Tip5 record first.
-pub fn write_hashed(
-    b: &mut [u8],
-    revision: u64,
-    clock: u32,
-    opcode: u64,
-    trace: &[u64],
-    effect: Effect,
-    stack: &[u64],
-    depth: usize,
-    after: usize,
-) -> usize
-    requires { LogRoom revision (tip5_bytes revision) effect stack.now b.old depth after × (length trace.now ≡ 96) }
-    ensures { Wrote revision b.old b.new 0
-        (call_records revision clock (tip5 opcode trace.now ∷ calls_of effect) ++ stack_records clock stack.now stack.now depth after)
-        (tip5_bytes revision + call_bytes revision effect + stack_bytes depth after) result }
-{
-    let next = log_tip5(b, 0, revision, clock, opcode, trace);
-    let then = log_calls(b, next, revision, clock, effect);
-    log_depth(b, then, clock, stack, depth, after)
-}
-
-// A Tip5 record between the effect's calls, which are reads, and the op stack's.
-pub fn write_read_hashed(
-    b: &mut [u8],
-    revision: u64,
-    clock: u32,
-    opcode: u64,
-    trace: &[u64],
-    effect: Effect,
-    stack: &[u64],
-    depth: usize,
-    after: usize,
-) -> usize
-    requires { LogRoom revision (tip5_bytes revision) effect stack.now b.old depth after × (length trace.now ≡ 96) }
-    ensures { Wrote revision b.old b.new 0
-        (call_records revision clock (calls_of effect ++ (tip5 opcode trace.now ∷ Nil)) ++ stack_records clock stack.now stack.now depth after)
-        (tip5_bytes revision + call_bytes revision effect + stack_bytes depth after) result }
-{
-    let next = log_calls(b, 0, revision, clock, effect);
-    let then = log_tip5(b, next, revision, clock, opcode, trace);
-    log_depth(b, then, clock, stack, depth, after)
+    let end = log_behind(b, then, revision, clock, besides);
+    log_depth(b, end, clock, stack, depth, after)
 }

@@ -1,15 +1,14 @@
--- What open makes of the stacks, and its answers where place A and the fee table accept and where they refuse. Assumes nothing.
+-- What open makes of the op stack, and its answers where place A and the fee table accept and where they refuse. Assumes nothing.
 use mathlib.Core.Path.{◌≡◌, refl, sym, ap, ◌∙◌}
 use mathlib.Core.Bool.{true≢false}
-use mathlib.Core.List.{List, [], ◌∷◌, append-nil}
-use Prim.Native.Nat.{ℕ, ◌+◌, ◌-◌, ◌≤◌}
+use mathlib.Core.List.{List, [], ◌∷◌}
+use Prim.Native.Nat.{ℕ, ◌≤◌}
 use native.Mathlib.Omega.{arith}
-use lib.ListN.{length, get_or, take, drop, replicate, length-drop, length-replicate, drop_of_length-le}
-use lib.Seq.{take_all}
+use lib.ListN.{length, get_or, replicate}
+use Rattle.std.proofs.lemmas.Grind.{common_steps}
 use Rattle.std.specs.Prelude.{Result, Ok, Err, IsErrAnd}
 use Rattle.machine.specs.declared.refusal.InstructionError.{InstructionError}
 use Rattle.machine.specs.declared.state.VMState.{VMState}
-use Rattle.machine_isa.specs.Copied.{copied}
 use Rattle.machine.specs.Refusal.{Refusal, refusal_of}
 use Rattle.machine.specs.Machine.{Code, Memory, memory}
 use Rattle.machine.specs.Apply.{applied_stack, kept}
@@ -17,37 +16,17 @@ use Rattle.machine.specs.PlaceA.{memory1, open_a}
 use Rattle.machine.specs.FeeTable.{Fees, checked}
 use Rattle.machine.specs.Open.{opened_stack, opened}
 use Rattle.choices.proofs.Choice.{first-nil, above-nil}
-use Rattle.machine_isa.proofs.Copies.{fill_end}
 use Rattle.machine.proofs.FeeTable.{checked-number}
 use Rattle.machine.proofs.Refused.{refusal_some, open_accepts, open_refuses}
 use Rattle.machine_fees.specs.FeeView.{FeesChecked}
 use Rattle.machine_fees.proofs.FeeLaws.{fees_fine}
 use Rattle.machine_open.specs.OpenView.{registers_of, Opens}
 
--- ---- the stacks
-
--- all words taken off, and five put on
-five_put : (a b c d e : ℕ) (s : List ℕ) (n : ℕ) → n ≡ length s → 5 ≤ n → applied_stack s n n (a ∷ b ∷ c ∷ d ∷ e ∷ []) ≡ a ∷ b ∷ c ∷ d ∷ e ∷ replicate (n - 5) 0
-unfolding applied_stack
-five_put a b c d e s n h l =
-    let z : n - n ≡ 0 = omega arith in
-    let r : length {A = ℕ} (replicate (n - 5) 0) ≡ n - 5 = length-replicate (n - 5) 0 in
-    let t : take {A = ℕ} (n - 5) (replicate (n - 5) 0) ≡ replicate (n - 5) 0 = take_all (n - 5) (replicate (n - 5) 0) (omega arith) in
-    let q : length (drop 5 s) ≡ length s - 5 = length-drop 5 s in
-    let x : drop (5 + (n - 5)) (a ∷ b ∷ c ∷ d ∷ e ∷ drop 5 s) ≡ [] = drop_of_length-le (a ∷ b ∷ c ∷ d ∷ e ∷ drop 5 s) {i = 5 + (n - 5)} (omega arith) in
-    rw (z, r, t, x) (ap (λ (y : List ℕ). a ∷ b ∷ c ∷ d ∷ e ∷ y) (append-nil (replicate (n - 5) 0)))
-
-pub stack-opened : (g s : List ℕ) {w r : List ℕ} → 16 ≤ length s → r ≡ applied_stack s (length s) (length s) w →
-    w ≡ get_or g 4 0 ∷ get_or g 3 0 ∷ get_or g 2 0 ∷ get_or g 1 0 ∷ get_or g 0 0 ∷ [] → r ≡ opened_stack g s
-unfolding opened_stack
-stack-opened g s h l e = l ∙ rw e (five_put (get_or g 4 0) (get_or g 3 0) (get_or g 2 0) (get_or g 1 0) (get_or g 0 0) s (length s) refl (omega arith))
-
-pub wiped : (s : List ℕ) {r : List ℕ} → r ≡ copied s 0 (replicate (length s) 0) (length s) → r ≡ replicate (length s) 0
-wiped s {r} h =
-    let k : length {A = ℕ} (replicate (length s) 0) ≡ length s = length-replicate (length s) 0 in
-    fill_end s r (replicate (length s) 0) (length s) (length s) refl refl h ∙ take_all (length s) (replicate (length s) 0) (omega arith)
-
--- ---- the answers
+-- all words taken off, and the digest's five put on
+pub stack_opened : (g s w : List ℕ) (n : ℕ) → n ≡ length s → 16 ≤ n → w ≡ get_or g 4 0 ∷ get_or g 3 0 ∷ get_or g 2 0 ∷ get_or g 1 0 ∷ get_or g 0 0 ∷ [] →
+    applied_stack s n n w ≡ opened_stack g s
+unfolding applied_stack opened_stack
+stack_opened g s w n e h q = rw q (grind (arith, common_steps))
 
 -- m is the memory as it is looked at
 pub open_number : (v : ℕ) (g : List ℕ) (c : Code) {m l : Memory} (k : ℕ) {n : ℕ} → l ≡ m → n ≡ open_a v g c l k → n ≡ open_a v g c m k

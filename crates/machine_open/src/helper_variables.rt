@@ -20,13 +20,5 @@ pub fn helper_variables(
     ensures { given_in 6 result ≡ helper_variables_of (machine state (code_of code.now) (seen memory.now)) }
 {
     check_machine(&state, code, memory)?;
-    Ok(helpers(
-        state,
-        code.opcodes,
-        code.arguments,
-        code.digests,
-        memory.op_stack,
-        memory.addresses,
-        memory.values,
-    ))
+    Ok(helpers(&state, code, memory))
 }

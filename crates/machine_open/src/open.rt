@@ -1,5 +1,5 @@
 // open: place A, and the fee table where one is handed in, then the machine before its first step.
-ghost use Rattle.std.specs.Prelude.{◌≡◌, ◌≤◌, length, replicate, IsSome};
+ghost use Rattle.std.specs.Prelude.{◌≡◌, ◌≤◌, length, IsSome};
 ghost use Rattle.machine.specs.Lent.{code_of, opening_of, KeepsOpening};
 ghost use Rattle.machine.specs.Open.{opened_stack};
 ghost use Rattle.machine_fees.specs.FeeView.{Priceable, fees_of};
@@ -9,7 +9,8 @@ use machine::lent::{LentCode, OpeningMemory};
 use machine::refusal::InstructionError;
 use machine::state::VMState;
 use machine_fees::fee_table::{LentFees, check_fees};
-use machine_isa::op_stack::{apply, clear};
+use machine_isa::few::Few;
+use machine_isa::op_stack::apply;
 use machine_place_a::checks::check_open;
 use tip5::sponge::Sponge;
 
@@ -18,43 +19,34 @@ fn registers(depth: usize, cells: usize, revision: u64) -> VMState
     ensures { result ≡ registers_of depth cells revision }
 {
     let sponge = Sponge {
-        words: [0u64; 16],
+        words: [0; 16],
         set: false,
     };
     VMState {
         clock: 0,
         pointer: 0,
-        depth: depth,
+        depth,
         jumps: 0,
-        cells: cells,
+        cells,
         outputs: 0,
         publics: 0,
         secrets: 0,
         digests: 0,
-        sponge: sponge,
+        sponge,
         halted: false,
-        revision: revision,
+        revision,
     }
 }
 
 // The digest reversed at the bottom, and zeros above: all words are taken off, and these five put on.
+#[tactic(auto, using(crate::proofs::OpenLaws::stack_opened))]
 fn open_stack(s: &mut [u64], digest: &[u64; 5])
     requires { 16 ≤ length s.old }
     ensures { s.new ≡ opened_stack digest.now s.old }
 {
-    let words = [
-        digest[4], digest[3], digest[2], digest[1], digest[0], 0, 0, 0, 0, 0, 0, 0, 0, 0, 0, 0,
-    ];
     let n = s.len();
-    apply(s, n, n, words, 5);
-}
-
-// Zeros throughout.
-fn wipe(s: &mut [u64])
-    ensures { s.new ≡ replicate (length s.old) 0 }
-{
-    let n = s.len();
-    clear(s, 0, n);
+    let reversed = [digest[4], digest[3], digest[2], digest[1], digest[0]];
+    apply(s, n, n, &Few::of(reversed));
 }
 
 // An opening only looks at a table.
@@ -74,13 +66,14 @@ fn checked(
     let handed = check_open(revision, digest, code, &memory.look(), cells);
     check_fees(fees, handed, prices)?;
     open_stack(memory.op_stack, digest);
-    wipe(memory.origins);
-    wipe(memory.destinations);
+    memory.origins.fill(0);
+    memory.destinations.fill(0);
     Ok(registers(16, cells, revision))
 }
 
 // With a log of the revision chosen. RAM and output are looked at and stay. Refused, nothing lent is changed. A fee table is looked at last of all and not
 // kept.
+#[tactic(auto, using(machine_fees::proofs::FeeLaws::zeros_priceable))]
 pub fn open(
     fees: Option<LentFees<'_>>,
     revision: u64,
@@ -94,11 +87,11 @@ pub fn open(
 {
     match fees {
         None => {
-            let mut none = [0u64; 1];
+            let mut none = [0; 1];
             checked(None, &mut none, revision, digest, cells, code, memory)
         }
         Some(_) => {
-            let mut prices = [0u64; 128];
+            let mut prices = [0; 128];
             checked(fees, &mut prices, revision, digest, cells, code, memory)
         }
     }

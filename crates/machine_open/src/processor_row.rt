@@ -20,23 +20,7 @@ pub fn processor_row(
     ensures { given_in 37 result ≡ processor_row_of (machine state (code_of code.now) (seen memory.now)) }
 {
     check_machine(&state, code, memory)?;
-    let mut words = [0u64; 37];
-    write_row(
-        &mut words,
-        state.clock as u64,
-        state.pointer,
-        state.depth,
-        state.jumps,
-        state.digests,
-        state.cells,
-        code.opcodes,
-        code.arguments,
-        code.digests,
-        memory.op_stack,
-        memory.origins,
-        memory.destinations,
-        memory.addresses,
-        memory.values,
-    );
+    let mut words = [0; 37];
+    write_row(&mut words, &state, code, memory);
     Ok(words)
 }

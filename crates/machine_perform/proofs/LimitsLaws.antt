@@ -2,38 +2,72 @@
 -- definition. Assumes nothing.
 use mathlib.Core.Path.{◌≡◌, refl, sym, ap, ◌∙◌}
 use mathlib.Core.Bool.{Bool, true, false}
-use mathlib.Core.List.{List, [], ◌++◌, append_assoc}
+use mathlib.Core.List.{List, [], ◌∷◌, ◌++◌, map}
 use mathlib.Core.Logic.{◌⊎◌, inl, inr, ⊎_elim}
-use Prim.Native.Nat.{ℕ, zero, suc, ◌+◌, ◌-◌, ◌≤◌, ◌<◌, min}
+use Prim.Native.Nat.{ℕ, zero, suc, ◌+◌, ◌-◌, ◌≤◌, ◌<◌}
 use native.Mathlib.Numerals.{add-one}
 use native.Mathlib.Omega.{arith}
 use borrow.Author.Tests.{eq-eqb, ne_eqb, eqb-true, eqb-false, ltb-true, ltb-false}
-use lib.ListN.{length, take, get_or, length-take}
+use lib.ListN.{length, take, get_or}
 use lib.Dec.{eqb, ltb}
+use Rattle.std.proofs.lemmas.List.{map-append}
+use lib.Seq.{take-suc, length-take-le}
 use Rattle.machine.specs.declared.state.VMState.{VMState}
-use Rattle.machine_effects.specs.declared.effect.Effect.{Effect as Arrays}
-use Rattle.machine_effects.specs.declared.effect.U32Call.{U32Call}
+use Rattle.machine_effects.specs.declared.effect.Effect.{Effect as CodeEffect}
+use Rattle.machine_effects.specs.declared.effect.Access.{Access}
+use Rattle.machine_effects.specs.declared.effect.Accesses.{Accesses}
+use Rattle.machine_effects.specs.declared.effect.Direction.{Direction}
+use Rattle.machine_effects.specs.declared.effect.Direction.TheVariants.{Read, Write}
+use Rattle.machine_effects.specs.declared.effect.U32Calls.{U32Calls}
+use Rattle.machine_effects.specs.declared.effect.U32Calls.TheVariants.{Zero, One, Two}
 use Rattle.choices.specs.Choice.{cond, first_of, above_of}
 use Rattle.machine.specs.Ram.{Cells, cells, at, absent, find, has_at, has, stored}
 use Rattle.machine.specs.Machine.{Code, Memory, machine}
-use Rattle.machine.specs.Effect.{Call, stays, pushes, pops}
-use Rattle.machine_effects.specs.EffectView.{u32s_of, accesses_from, reads_from, writes_from, jump_of, calls_of, effect_of}
+use Rattle.machine.specs.Effect.{Call, reset, tip5, u32, ram_read, ram_write}
+use Rattle.machine_effects.specs.EffectView.{u32s_of, access_of, accesses_of, first_accesses, jump_of, calls_of, effect_of}
 use Rattle.machine.specs.Apply.{touched, jumps_after, limits_of}
-use Rattle.machine_perform.specs.PerformView.{jumps_by, among_of, has_in, new_of, fresh_of}
+use Rattle.machine_perform.specs.PerformView.{no_access, address_at, among_of, has_in, new_of, fresh_of}
 use Rattle.choices.proofs.Choice.{above-is, above-not}
 use Rattle.machine.proofs.RamLaws.{has_addresses, stored-count, stored_more, has-stored}
 use Rattle.machine.proofs.Touched.{touched_addresses, touched_values}
 
+-- an access that is there, whatever stands behind the last
+pub same_at : (w : List Access) (k : ℕ) (e : Access) → k < length w → get_or w k e ≡ get_or w k no_access
+same_at [] k e h = absurd (omega arith)
+same_at (x ∷ w) zero e h = refl
+same_at (x ∷ w) (suc k) e h = same_at w k e (omega arith)
+
+pub same_address : (w : List Access) (k : ℕ) (e : Access) → k < length w → (get_or w k e).address ≡ address_at w k
+same_address w k e h = ap (λ (x : Access). x.address) (same_at w k e h)
+
 -- ---- whether an address is among those of the writes before
 
-module _ (w : List ℕ) (i n a : ℕ) where
-  pub among_here : get_or w (i + n) 0 ≡ a → among_of w i (n + 1) a ≡ true
+module _ (w : List Access) (a : ℕ) where
+  among_kept : (i n : ℕ) → i ≤ n → among_of w i a ≡ true → among_of w n a ≡ true
   unfolding among_of
-  among_here h = rw (add-one n, eq-eqb (get_or w (i + n) 0) a h)
+  among_kept i zero l h = let e : i ≡ 0 = omega arith in rw e at h
+  among_kept i (suc n) l h = go (eqb i (suc n)) refl (λ m. among_kept i n m h)
+    where
+      go : (t : Bool) → eqb i (suc n) ≡ t → (i ≤ n → among_of w n a ≡ true) → among_of w (suc n) a ≡ true
+      go true e ih = let q : i ≡ suc n = eqb-true i (suc n) e in rw q at h
+      go false e ih =
+          let q : i ≡ suc n → ⊥ = eqb-false i (suc n) e in
+          last (eqb (address_at w n) a) (ih (omega arith))
+        where
+          last : (t : Bool) → among_of w n a ≡ true → cond t true (among_of w n a) ≡ true
+          last true k = refl
+          last false k = k
 
-  pub among_past : (get_or w (i + n) 0 ≡ a → ⊥) → among_of w i (n + 1) a ≡ among_of w i n a
+  among_here : (i : ℕ) → address_at w i ≡ a → among_of w (suc i) a ≡ true
   unfolding among_of
-  among_past h = rw (add-one n, ne_eqb (get_or w (i + n) 0) a h)
+  among_here i h = rw (eq-eqb (address_at w i) a h)
+
+  pub among_found : (i n : ℕ) (e : Access) → i < n → n ≤ length w → (get_or w i e).address ≡ a → true ≡ among_of w n a
+  among_found i n e l m h = sym (among_kept (suc i) n l (among_here i (sym (same_address w i e (omega arith)) ∙ h)))
+
+  pub among_past : (i : ℕ) (e : Access) → i < length w → ((get_or w i e).address ≡ a → ⊥) → among_of w i a ≡ false → among_of w (i + 1) a ≡ false
+  unfolding among_of
+  among_past i e l h k = rw (add-one i, ne_eqb (address_at w i) a (λ z. h (same_address w i e l ∙ z))) k
 
 -- ---- whether an address has a cell
 
@@ -51,56 +85,78 @@ in_absent c a i h = sym (has_in_lem c a) ∙ ap has_at (sym h)
 
 -- ---- whether a write adds a cell, and how many do
 
-module _ (s : List ℕ) (n : ℕ) (w : List ℕ) (i k : ℕ) where
-  pub new_is : (t : Bool) → cond (among_of w i k (get_or w (i + k) 0)) true (has_in s n (get_or w (i + k) 0)) ≡ t → new_of s n w i k ≡ cond t 0 1
+module _ (s : List ℕ) (n : ℕ) (w : List Access) (k : ℕ) where
+  new_is : (t : Bool) → cond (among_of w k (address_at w k)) true (has_in s n (address_at w k)) ≡ t → new_of s n w k ≡ cond t 0 1
   unfolding new_of
-  new_is t e = go (among_of w i k (get_or w (i + k) 0)) (has_in s n (get_or w (i + k) 0)) ∙ ap (λ (z : Bool). cond {A = ℕ} z 0 1) e
+  new_is t e = go (among_of w k (address_at w k)) (has_in s n (address_at w k)) ∙ ap (λ (z : Bool). cond {A = ℕ} z 0 1) e
     where
       go : (x y : Bool) → ◌≡◌ {A = ℕ} (cond x 0 (cond y 0 1)) (cond (cond x true y) 0 1)
       go true y = refl
       go false y = refl
 
-  pub new_among : among_of w i k (get_or w (i + k) 0) ≡ true → new_of s n w i k ≡ 0
-  new_among e = new_is true (rw e)
+  pub new_among : {a : ℕ} → a ≡ address_at w k → among_of w k a ≡ true → 0 ≡ new_of s n w k
+  new_among q e = sym (new_is true (rw (← q, e)))
 
-  pub new_in_lem : (t : Bool) → among_of w i k (get_or w (i + k) 0) ≡ false → has_in s n (get_or w (i + k) 0) ≡ t → new_of s n w i k ≡ cond t 0 1
-  new_in_lem t e h = new_is t (rw e h)
+  pub new_in_lem : (t : Bool) {a : ℕ} → a ≡ address_at w k → among_of w k a ≡ false → has_in s n a ≡ t → cond t 0 1 ≡ new_of s n w k
+  new_in_lem t q e h = sym (new_is t (rw (← q, e) h))
 
-  new_one : new_of s n w i k ≤ 1
+  new_one : new_of s n w k ≤ 1
   unfolding new_of
-  new_one = go (among_of w i k (get_or w (i + k) 0)) (has_in s n (get_or w (i + k) 0))
+  new_one = go (among_of w k (address_at w k)) (has_in s n (address_at w k))
     where
       go : (x y : Bool) → cond x 0 (cond y 0 1) ≤ 1
       go true y = omega arith
       go false true = omega arith
       go false false = omega arith
 
-  pub new_few : {r : ℕ} → r ≡ new_of s n w i k → r ≤ 1
+  pub new_few : {r : ℕ} → r ≡ new_of s n w k → r ≤ 1
   new_few e = rw e new_one
 
-  pub fresh_turn : {m r : ℕ} → m ≡ fresh_of s n w i k → r ≡ new_of s n w i k → m + r ≡ fresh_of s n w i (k + 1)
+  pub fresh_turn : {m r : ℕ} → m ≡ fresh_of s n w k → r ≡ new_of s n w k → m + r ≡ fresh_of s n w (k + 1)
   unfolding fresh_of
   fresh_turn e f = rw (e, f, add-one k)
 
-fresh-few : (s : List ℕ) (n : ℕ) (w : List ℕ) (i k : ℕ) → fresh_of s n w i k ≤ k
+fresh-few : (s : List ℕ) (n : ℕ) (w : List Access) (k : ℕ) → fresh_of s n w k ≤ k
 unfolding fresh_of
-fresh-few s n w i zero = omega arith
-fresh-few s n w i (suc k) = omega (arith, fresh-few s n w i k, new_one s n w i k)
+fresh-few s n w zero = omega arith
+fresh-few s n w (suc k) = omega (arith, fresh-few s n w k, new_one s n w k)
 
-pub fresh-least : (s : List ℕ) (n : ℕ) (w : List ℕ) (i k : ℕ) {r : ℕ} → r ≡ fresh_of s n w i k → r ≤ k
-fresh-least s n w i k e = omega (arith, fresh-few s n w i k)
-
-pub fresh-fits : (s : List ℕ) (n : ℕ) (w : List ℕ) (i k l : ℕ) → n + k ≤ l → 0 ≡ above_of (n + fresh_of s n w i k) l 32
-fresh-fits s n w i k l h = sym (above-not (n + fresh_of s n w i k) l 32 (omega (arith, fresh-few s n w i k)))
+pub fresh-least : (s : List ℕ) (n : ℕ) (w : List Access) (k : ℕ) {r : ℕ} → r ≡ fresh_of s n w k → r ≤ k
+fresh-least s n w k e = omega (arith, fresh-few s n w k)
 
 -- ---- the cells after a row of writes
 
-writes_end : (a v : List ℕ) (c : Cells) (i k : ℕ) → touched c (writes_from a v i (suc k)) ≡ stored (touched c (writes_from a v i k)) (get_or a (i + k) 0) (get_or v (i + k) 0)
-unfolding touched accesses_from
-writes_end a v c i zero = let e : i + 0 ≡ i = omega arith in rw e
-writes_end a v c i (suc k) =
-    let e : i + suc k ≡ i + 1 + k = omega arith in
-    rw e (writes_end a v (stored c (get_or a i 0) (get_or v i 0)) (i + 1) k)
+touched_append : (xs ys : List Call) (c : Cells) → touched c (xs ++ ys) ≡ touched (touched c xs) ys
+unfolding touched
+touched_append [] ys c = refl
+touched_append (reset ∷ xs) ys c = touched_append xs ys c
+touched_append (tip5 o t ∷ xs) ys c = touched_append xs ys c
+touched_append (u32 o l r ∷ xs) ys c = touched_append xs ys c
+touched_append (ram_read a v ∷ xs) ys c = touched_append xs ys c
+touched_append (ram_write a v ∷ xs) ys c = touched_append xs ys (stored c a v)
+
+-- the last of a row of writes
+pub writes_end : (w : List Access) (c : Cells) (k : ℕ) (e : Access) → k < length w →
+    touched c (first_accesses Write w (suc k)) ≡ stored (touched c (first_accesses Write w k)) (get_or w k e).address (get_or w k e).value
+unfolding touched first_accesses
+writes_end w c k e h = rw (take-suc w k e h, map-append (access_of Write) (take k w) (get_or w k e ∷ [])) (touched_append (map (access_of Write) (take k w)) (access_of Write (get_or w k e) ∷ []) c)
+
+pub writes_start : (w : List Access) (c : Cells) → c ≡ touched c (first_accesses Write w 0)
+unfolding touched first_accesses
+writes_start w c = refl
+
+-- writes take no cell back
+pub writes_more : (w : List Access) (c : Cells) (i n : ℕ) → i ≤ n → n ≤ length w → (touched c (first_accesses Write w i)).count ≤ (touched c (first_accesses Write w n)).count
+writes_more w c i zero l h = let e : i ≡ 0 = omega arith in rw e (omega arith)
+writes_more w c i (suc n) l h = go (eqb i (suc n)) refl (λ m. writes_more w c i n m (omega arith))
+  where
+    go : (t : Bool) → eqb i (suc n) ≡ t → (i ≤ n → (touched c (first_accesses Write w i)).count ≤ (touched c (first_accesses Write w n)).count) →
+        (touched c (first_accesses Write w i)).count ≤ (touched c (first_accesses Write w (suc n))).count
+    go true e ih = let q : i ≡ suc n = eqb-true i (suc n) e in rw q (omega arith)
+    go false e ih =
+        let q : i ≡ suc n → ⊥ = eqb-false i (suc n) e in
+        let x = get_or w n no_access in
+        rw (writes_end w c n no_access (omega arith)) (omega (arith, ih (omega arith), stored_more (touched c (first_accesses Write w n)) x.address x.value))
 
 -- the same two tests
 either : (x b : ℕ) (t z : Bool) → cond (eqb b x) true (cond t true z) ≡ cond (cond (eqb x b) true t) true z
@@ -110,18 +166,18 @@ either x b t z = go (eqb x b) refl
     go true e = rw (eq-eqb b x (sym (eqb-true x b e)))
     go false e = rw (ne_eqb b x (λ q. eqb-false x b e (sym q)))
 
-module _ (c : Cells) (a v : List ℕ) (i : ℕ) (used : c.count ≤ length c.addresses) (pair : length c.addresses ≡ length c.values) where
+module _ (c : Cells) (w : List Access) (used : c.count ≤ length c.addresses) (pair : length c.addresses ≡ length c.values) where
   after : ℕ → Cells
-  after k = touched c (writes_from a v i k)
+  after k = touched c (first_accesses Write w k)
 
   added : ℕ → ℕ
-  added k = fresh_of c.addresses c.count a i k
+  added k = fresh_of c.addresses c.count w k
 
   -- while there is room, the cells are counted right
   record Counted (k : ℕ) : Type 0 where
     within : c.count + added k ≤ length c.addresses
     count : (after k).count ≡ c.count + added k
-    holds : (b : ℕ) → has (after k) b ≡ cond (among_of a i k b) true (has c b)
+    holds : (b : ℕ) → has (after k) b ≡ cond (among_of w k b) true (has c b)
 
   -- and then there is none by both counts
   record Full (k : ℕ) : Type 0 where
@@ -129,40 +185,40 @@ module _ (c : Cells) (a v : List ℕ) (i : ℕ) (used : c.count ≤ length c.add
     more : length c.addresses < c.count + added k
 
   start : Counted 0
-  unfolding touched accesses_from fresh_of among_of after added
+  unfolding touched first_accesses fresh_of among_of after added
   start = record { within = omega arith; count = omega arith; holds = λ b. refl }
 
-  next : (k : ℕ) → Counted k ⊎ Full k → Counted (suc k) ⊎ Full (suc k)
+  next : (k : ℕ) → k < length w → Counted k ⊎ Full k → Counted (suc k) ⊎ Full (suc k)
   unfolding fresh_of among_of after added
-  next k (inr f) =
-      let e = writes_end a v c i k in
-      inr (record { count = rw e (omega (arith, f.count, stored_more (after k) (get_or a (i + k) 0) (get_or v (i + k) 0))); more = omega (arith, f.more) })
-  next k (inl h) = go (has (after k) x) refl
+  next k l (inr f) =
+      let e = writes_end w c k no_access l in
+      inr (record { count = rw e (omega (arith, f.count, stored_more (after k) (address_at w k) (get_or w k no_access).value)); more = omega (arith, f.more) })
+  next k l (inl h) = go (has (after k) x) refl
     where
       x : ℕ
-      x = get_or a (i + k) 0
+      x = address_at w k
 
       y : ℕ
-      y = get_or v (i + k) 0
+      y = (get_or w k no_access).value
 
       long : length (after k).addresses ≡ length c.addresses
-      long = touched_addresses (writes_from a v i k) c
+      long = touched_addresses (first_accesses Write w k) c
 
       even : length (after k).addresses ≡ length (after k).values
-      even = long ∙ pair ∙ sym (touched_values (writes_from a v i k) c)
+      even = long ∙ pair ∙ sym (touched_values (first_accesses Write w k) c)
 
-      new : (t : Bool) → has (after k) x ≡ t → new_of c.addresses c.count a i k ≡ cond t 0 1
-      new t e = new_is c.addresses c.count a i k t (sym (h.holds x ∙ rw (has_in_lem c x)) ∙ e)
+      new : (t : Bool) → has (after k) x ≡ t → new_of c.addresses c.count w k ≡ cond t 0 1
+      new t e = new_is c.addresses c.count w k t (sym (h.holds x ∙ rw (has_in_lem c x)) ∙ e)
 
       -- one more write that has room
       more : (t : Bool) → has (after k) x ≡ t → c.count + added (suc k) ≤ length c.addresses → (stored (after k) x y).count ≡ c.count + added (suc k) → Counted (suc k)
-      more t e l q =
-          let w = writes_end a v c i k in
-          let r : (stored (after k) x y).count ≤ length (after k).addresses = rw (q, long) l in
+      more t e f q =
+          let z = writes_end w c k no_access l in
+          let r : (stored (after k) x y).count ≤ length (after k).addresses = rw (q, long) f in
           record {
-            within = l;
-            count = rw w q;
-            holds = λ b. rw w (has-stored (after k) x y r even b ∙ rw (h.holds b) (either x b (among_of a i k b) (has c b)));
+            within = f;
+            count = rw z q;
+            holds = λ b. rw z (has-stored (after k) x y r even b ∙ rw (h.holds b) (either x b (among_of w k b) (has c b)));
           }
 
       go : (t : Bool) → has (after k) x ≡ t → Counted (suc k) ⊎ Full (suc k)
@@ -176,67 +232,63 @@ module _ (c : Cells) (a v : List ℕ) (i : ℕ) (used : c.count ≤ length c.add
           room (ltb (length c.addresses) (c.count + added (suc k))) refl (omega (arith, n, q, h.count))
         where
           room : (t : Bool) → ltb (length c.addresses) (c.count + added (suc k)) ≡ t → (stored (after k) x y).count ≡ c.count + added (suc k) → Counted (suc k) ⊎ Full (suc k)
-          room true l q =
-              let m : length c.addresses < c.count + added (suc k) = ltb-true (length c.addresses) (c.count + added (suc k)) l in
-              inr (record { count = rw (writes_end a v c i k, q) m; more = m })
-          room false l q = inl (more false e (ltb-false (length c.addresses) (c.count + added (suc k)) l) q)
+          room true f q =
+              let m : length c.addresses < c.count + added (suc k) = ltb-true (length c.addresses) (c.count + added (suc k)) f in
+              inr (record { count = rw (writes_end w c k no_access l, q) m; more = m })
+          room false f q = inl (more false e (ltb-false (length c.addresses) (c.count + added (suc k)) f) q)
 
-  counts : (k : ℕ) → Counted k ⊎ Full k
-  counts zero = inl start
-  counts (suc k) = next k (counts k)
+  counts : (k : ℕ) → k ≤ length w → Counted k ⊎ Full k
+  counts zero l = inl start
+  counts (suc k) l = next k l (counts k (omega arith))
 
-  pub room-is : (k z : ℕ) → above_of (c.count + fresh_of c.addresses c.count a i k) (length c.addresses) z ≡ above_of (touched c (writes_from a v i k)).count (length c.addresses) z
+  pub room-is : (k z : ℕ) → k ≤ length w → above_of (c.count + fresh_of c.addresses c.count w k) (length c.addresses) z ≡ above_of (touched c (first_accesses Write w k)).count (length c.addresses) z
   unfolding after added
-  room-is k z = ⊎_elim
+  room-is k z l = ⊎_elim
       (λ (h : Counted k). rw h.count)
       (λ (f : Full k). above-is (c.count + added k) (length c.addresses) z f.more ∙ sym (above-is (after k).count (length c.addresses) z f.count))
-      (counts k)
+      (counts k l)
 
 -- ---- of an effect's calls only the writes of RAM touch it
 
-u32s_touch : (n : ℕ) (a b : U32Call) (cs : List Call) (c : Cells) → touched c (u32s_of n a b ++ cs) ≡ touched c cs
-unfolding touched u32s_of
-u32s_touch zero a b cs c = refl
-u32s_touch (suc zero) a b cs c = refl
-u32s_touch (suc (suc n)) a b cs c = refl
+u32s_touch : (u : U32Calls) (cs : List Call) (c : Cells) → touched c (u32s_of u ++ cs) ≡ touched c cs
+unfolding touched
+u32s_touch Zero cs c = refl
+u32s_touch (One a) cs c = refl
+u32s_touch (Two a b) cs c = refl
 
-reads_touch : (a v : List ℕ) (i n : ℕ) (cs : List Call) (c : Cells) → touched c (reads_from a v i n ++ cs) ≡ touched c cs
-unfolding touched accesses_from
-reads_touch a v i zero cs c = refl
-reads_touch a v i (suc n) cs c = reads_touch a v (i + 1) n cs c
+reads_touch : (xs : List Access) (c : Cells) → touched c (map (access_of Read) xs) ≡ c
+unfolding touched
+reads_touch [] c = refl
+reads_touch (x ∷ xs) c = reads_touch xs c
 
-pub writes_touch : (e : Arrays) (c : Cells) → touched c (calls_of e) ≡ touched c (writes_from e.addresses e.values e.reads e.writes)
-writes_touch e c =
-    let u = u32s_of e.u32s e.u32_0 e.u32_1 in
-    let r = reads_from e.addresses e.values 0 e.reads in
-    let w = writes_from e.addresses e.values e.reads e.writes in
-    ap (λ (cs : List Call). touched c cs) (append_assoc u r w)
-    ∙ u32s_touch e.u32s e.u32_0 e.u32_1 (r ++ w) c ∙ reads_touch e.addresses e.values 0 e.reads w c
+pub read_touch : (w : List Access) (n : ℕ) (c : Cells) → touched c (first_accesses Read w n) ≡ c
+unfolding first_accesses
+read_touch w n c = reads_touch (take n w) c
+
+pub writes_touch : (e : CodeEffect) (c : Cells) → touched c (calls_of e) ≡ touched c (accesses_of e.accesses)
+writes_touch e c = u32s_touch e.u32s (accesses_of e.accesses) c
 
 -- ---- the number
 
-pub jumps_by_lem : (n : ℕ) (e : Arrays) → jumps_after n (jump_of e) ≡ jumps_by n e.calls e.returns
-unfolding jumps_by
-jumps_by_lem n e = go e.calls e.returns
-  where
-    go : (x y : Bool) → jumps_after n (cond x (pushes e.origin e.target) (cond y pops stays)) ≡ cond x (n + 1) (cond y (n - 1) n)
-    go true y = refl
-    go false true = refl
-    go false false = refl
+module _ (c : Cells) (w : List Access) (n : ℕ) (used : c.count ≤ length c.addresses) (pair : length c.addresses ≡ length c.values) (l : n ≤ length w) where
+  -- where there is room for all
+  pub writes_fit : c.count + n ≤ length c.addresses → 0 ≡ above_of (touched c (first_accesses Write w n)).count (length c.addresses) 32
+  writes_fit h =
+      sym (above-not (c.count + fresh_of c.addresses c.count w n) (length c.addresses) 32 (omega (arith, fresh-few c.addresses c.count w n)))
+      ∙ room-is c w used pair n 32 l
 
-pub taken-length : (n k : ℕ) (l : List ℕ) → length l ≡ k → length (take n l) ≡ min n k
-taken-length n k l h = length-take n l ∙ rw h
+  pub writes_counted : {r m : ℕ} → m ≡ fresh_of c.addresses c.count w n → r ≡ above_of (c.count + m) (length c.addresses) 32 → r ≡ above_of (touched c (first_accesses Write w n)).count (length c.addresses) 32
+  writes_counted e f = f ∙ rw e (room-is c w used pair n 32 l)
 
-pub limits_is : (s : VMState) (e : Arrays) (m : Memory) (c : Code) → length e.words ≡ 16 → length e.output ≡ 5 → s.cells ≤ length m.addresses → length m.addresses ≡ length m.values →
-    first_of (above_of (s.depth - e.pops + min e.count 16) (length m.op_stack) 30)
-    (first_of (above_of (jumps_by s.jumps e.calls e.returns) (length m.origins) 31)
-    (first_of (above_of (s.cells + fresh_of m.addresses s.cells e.addresses e.reads e.writes) (length m.addresses) 32)
-    (first_of (above_of (s.outputs + min e.outputs 5) (length m.output) 33)
+pub cells_read : (c : Cells) (w : List Access) (n : ℕ) → c.count ≤ length c.addresses → 0 ≡ above_of (touched c (first_accesses Read w n)).count (length c.addresses) 32
+cells_read c w n h = rw (read_touch w n c) (sym (above-not c.count (length c.addresses) 32 h))
+
+pub limits_is : (s : VMState) (e : CodeEffect) (m : Memory) (c : Code) →
+    first_of (above_of (s.depth - e.pops + length (take e.words.count e.words.words)) (length m.op_stack) 30)
+    (first_of (above_of (jumps_after s.jumps (jump_of e.jump)) (length m.origins) 31)
+    (first_of (above_of (touched (cells s.cells m.addresses m.values) (accesses_of e.accesses)).count (length m.addresses) 32)
+    (first_of (above_of (s.outputs + length (take e.output.count e.output.words)) (length m.output) 33)
     (above_of s.clock 4294967294 34))))
     ≡ limits_of (machine s c m) (effect_of e)
 unfolding limits_of effect_of
-limits_is s e m c words output used pair =
-    let d = taken-length e.count 16 e.words words in
-    let o = taken-length e.outputs 5 e.output output in
-    let r = room-is (cells s.cells m.addresses m.values) e.addresses e.values e.reads used pair e.writes 32 in
-    rw (d, o, jumps_by_lem s.jumps e, writes_touch e (cells s.cells m.addresses m.values), r)
+limits_is s e m c = rw (writes_touch e (cells s.cells m.addresses m.values))

@@ -1,134 +1,101 @@
--- Laws of an effect's performance: the writes of RAM in order, what the parts of the machine come to, and that effects with
+-- Laws of an effect's performance: a row of writes turn by turn, what the parts of the machine come to, and that effects with
 -- a trace perform as those without. Assumes nothing.
 use mathlib.Core.Path.{◌≡◌, refl, sym, ap, ◌∙◌}
-use mathlib.Core.Bool.{Bool, true, false}
-use mathlib.Core.List.{List, [], ◌∷◌, ◌++◌}
-use Prim.Native.Nat.{ℕ, zero, suc, ◌+◌, ◌-◌, ◌*◌, ◌≤◌, ◌<◌, min}
+use mathlib.Core.List.{List, [], ◌∷◌, ◌++◌, map}
+use Prim.Native.Nat.{ℕ, suc, ◌+◌, ◌-◌, ◌*◌, ◌≤◌, ◌<◌}
+use native.Mathlib.Numerals.{add-one}
 use native.Mathlib.Omega.{arith}
-use borrow.Author.Tests.{ltb-true, ltb-false}
-use lib.ListN.{length, take, get_or, set}
-use lib.Seq.{paste, take_all}
-use lib.Dec.{ltb}
+use lib.ListN.{length, take, get_or}
+use lib.Seq.{length-take-le}
 use Rattle.tip5.specs.declared.sponge.Sponge.{Sponge}
 use Rattle.machine.specs.declared.state.VMState.{VMState}
-use Rattle.machine_effects.specs.declared.effect.Effect.{Effect as Arrays}
-use Rattle.machine_effects.specs.declared.effect.U32Call.{U32Call}
+use Rattle.machine_effects.specs.declared.effect.Effect.{Effect as CodeEffect}
+use Rattle.machine_effects.specs.declared.effect.Access.{Access}
+use Rattle.machine_effects.specs.declared.effect.Accesses.{Accesses}
+use Rattle.machine_effects.specs.declared.effect.Direction.{Direction}
+use Rattle.machine_effects.specs.declared.effect.Direction.TheVariants.{Read, Write}
+use Rattle.machine_effects.specs.declared.effect.U32Calls.{U32Calls}
+use Rattle.machine_effects.specs.declared.effect.U32Calls.TheVariants.{Zero, One, Two}
 use Rattle.machine_hashing.specs.declared.hashing.Hashed.{Hashed}
-use Rattle.choices.specs.Choice.{cond}
+use Rattle.machine_hashing.specs.declared.hashing.Recorded.{Recorded}
+use Rattle.machine_hashing.specs.declared.hashing.Recorded.TheVariants.{Reset, First, Last}
 use Rattle.machine.specs.Ram.{Cells, cells, stored}
-use Rattle.machine_ram.specs.RamView.{Ordered, Room}
+use Rattle.machine_ram.specs.RamView.{Ordered, Room, Stored}
+use Rattle.machine_ram.specs.LentCells.{Keeps}
+use Rattle.machine_ram.specs.declared.ram_mut.RamMut.{RamMut}
 use Rattle.machine.specs.Machine.{Memory, memory, Machine, ram}
-use Rattle.machine.specs.Effect.{Call, reset, tip5, u32, ram_read, ram_write, stays, pushes, pops, SpongeChange, keeps, becomes, Effect}
-use Rattle.machine_effects.specs.EffectView.{u32s_of, accesses_from, reads_from, writes_from, jump_of, effect_of}
-use Rattle.machine_log.specs.Logged.{tip5_bytes, u32_bytes, call_bytes}
-use Rattle.machine_hashing.specs.HashedView.{with_sponge, hashed_calls, hashed_effect}
+use Rattle.machine.specs.Effect.{Call, reset, tip5, u32, ram_read, ram_write, SpongeChange, keeps, Effect}
+use Rattle.machine_effects.specs.EffectView.{u32s_of, access_of, accesses_of, first_accesses, jump_of, effect_of}
+use Rattle.machine_log.specs.Logged.{u32_bytes, u32_count, call_bytes}
+use Rattle.machine_hashing.specs.HashedView.{with_sponge, recorded_with, sponge_change, hashed_calls, hashed_effect}
 use Rattle.machine.specs.Apply.{put, applied_stack, origins_after, destinations_after, touched, pointer_after, sponge_after, performed_at, performed, limits_of}
-use Rattle.machine_perform.specs.PerformView.{jump_words, Fit, moved_to, Ready, Performed}
+use Rattle.machine_perform.specs.PerformView.{WritesRow, Fit, moved_to, Ready, Performed}
 use Rattle.machine.specs.Sound.{Sound, Facts}
-use Rattle.machine.proofs.Touched.{touched-more}
-use Rattle.machine_isa.proofs.Copies.{copy_put}
+use Rattle.machine.proofs.Touched.{touched_addresses, touched_values}
 use Rattle.machine.proofs.Preserved.{limits_fit}
 use Rattle.machine.proofs.Does.{call_sizes}
-use Rattle.machine_perform.proofs.LimitsLaws.{jumps_by_lem, taken-length, writes_touch}
+use Rattle.machine_perform.proofs.LimitsLaws.{writes_touch, writes_start, writes_end, writes_more}
+use Rattle.machine_ram.proofs.RamView.{stored-ordered}
 
--- ---- writes in order: what is done and what is left
+-- ---- a row of writes: the first i are made
 
-module _ (a v : List ℕ) (k n : ℕ) where
-  pub writes_start : (c : Cells) → touched c (writes_from a v (k + 0) (n - 0)) ≡ touched c (writes_from a v k n)
-  writes_start c =
-      let e : k + 0 ≡ k = omega arith in
-      let f : n - 0 ≡ n = omega arith in
-      rw (e, f)
+pub keeps_same : (a : RamMut) → Keeps a a
+keeps_same a = record { addresses = refl; values = refl }
 
-  module _ (i : ℕ) (h : i < n) (c : Cells) where
-    next-write : touched c (writes_from a v (k + i) (n - i)) ≡ touched (stored c (get_or a (k + i) 0) (get_or v (k + i) 0)) (writes_from a v (k + (i + 1)) (n - (i + 1)))
-    unfolding touched accesses_from
-    next-write =
-        let e : n - i ≡ suc (n - (i + 1)) = omega arith in
-        let f : k + i + 1 ≡ k + (i + 1) = omega arith in
-        rw (e, f)
+pub keeps_on : {a b c : RamMut} → Keeps a b → Keeps b c → Keeps a c
+keeps_on h k = record { addresses = k.addresses ∙ h.addresses; values = k.values ∙ h.values }
 
-    pub writes_turn : (d : Cells) {r : Cells} → touched c (writes_from a v (k + i) (n - i)) ≡ d → r ≡ stored c (get_or a (k + i) 0) (get_or v (k + i) 0) → touched r (writes_from a v (k + (i + 1)) (n - (i + 1))) ≡ d
-    writes_turn d q e = rw e (sym next-write ∙ q)
+pub record Wrote (c : Cells) (w : List Access) (i : ℕ) (d : Cells) : Type 0 where
+  pub is : d ≡ touched c (first_accesses Write w i)
+  pub ordered : Ordered d.addresses d.count
 
-    pub writes-room : (d : Cells) → touched c (writes_from a v (k + i) (n - i)) ≡ d → Ordered c.addresses c.count → length c.addresses ≡ length c.values → d.count ≤ length c.addresses →
-        Room c (get_or a (k + i) 0) (get_or v (k + i) 0)
-    writes-room d q o pair fits =
-        let w = writes_from a v (k + (i + 1)) (n - (i + 1)) in
-        let x = stored c (get_or a (k + i) 0) (get_or v (k + i) 0) in
-        let e : (touched x w).count ≡ d.count = ap (λ (z : Cells). z.count) (sym next-write ∙ q) in
-        record {
-          ordered = o;
-          pair = pair;
-          fits = omega (arith, e, touched-more w x);
-        }
+pub wrote_none : {c : Cells} {w : List Access} {n : ℕ} → WritesRow c w n → Wrote c w 0 c
+wrote_none {c} {w} r = record { is = writes_start w c; ordered = r.ordered }
 
-  pub writes-done : (i : ℕ) → n ≤ i → (c d : Cells) → touched c (writes_from a v (k + i) (n - i)) ≡ d → c ≡ d
-  unfolding touched accesses_from
-  writes-done i h c d q =
-      let e : n - i ≡ 0 = omega arith in
-      rw e at q
+module _ {c : Cells} {w : List Access} {n i : ℕ} {d : Cells} (r : WritesRow c w n) (h : i < n) (k : Wrote c w i d) where
+  pub wrote_room : (e : Access) {x : Access} → x ≡ get_or w i e → Room d x.address x.value
+  wrote_room e {x} q =
+      let ad : length d.addresses ≡ length c.addresses = ap (λ (z : Cells). length z.addresses) k.is ∙ touched_addresses (first_accesses Write w i) c in
+      let vs : length d.values ≡ length c.values = ap (λ (z : Cells). length z.values) k.is ∙ touched_values (first_accesses Write w i) c in
+      let f = r.few in
+      let s : (stored d x.address x.value).count ≡ (touched c (first_accesses Write w (suc i))).count =
+      ap (λ (z : Cells). (stored z x.address x.value).count) k.is ∙ ap (λ (z : Access). (stored (touched c (first_accesses Write w i)) z.address z.value).count) q
+      ∙ ap (λ (z : Cells). z.count) (sym (writes_end w c i e (omega (arith, h, f)))) in
+      let m = writes_more w c (suc i) n h f in
+      record {
+        ordered = k.ordered;
+        pair = ad ∙ r.pair ∙ sym vs;
+        fits = rw s (omega (arith, m, r.fits, ad));
+      }
+
+  pub wrote_turn : (e : Access) {x : Access} {b : Cells} → x ≡ get_or w i e → Stored d x.address x.value b → Wrote c w (i + 1) b
+  wrote_turn e {x} q s =
+      record {
+        is =
+            s.is ∙ ap (λ (z : Cells). stored z x.address x.value) k.is ∙ ap (λ (z : Access). stored (touched c (first_accesses Write w i)) z.address z.value) q
+            ∙ rw add-one (sym (writes_end w c i e (omega (arith, h, r.few))));
+        ordered = stored-ordered (wrote_room e q) s;
+      }
 
 -- ---- the parts of the machine
 
-pub take-least : (n k : ℕ) (l : List ℕ) → length l ≡ k → take (min n k) l ≡ take n l
-take-least n k l h = go (ltb k n) refl
-  where
-    go : (t : Bool) → ltb k n ≡ t → take (min n k) l ≡ take n l
-    go true q =
-        let x : k < n = ltb-true k n q in
-        let e : min n k ≡ k = omega arith in
-        let y : length l ≤ k = omega arith in
-        let z : length l ≤ n = omega arith in
-        rw (e, take_all k l y, take_all n l z)
-    go false q =
-        let x : n ≤ k = ltb-false k n q in
-        let e : min n k ≡ n = omega arith in
-        rw e
-
-origins_by : (s : List ℕ) (n : ℕ) (e : Arrays) → jump_words s n e.calls e.returns e.origin ≡ origins_after s n (jump_of e)
-unfolding jump_words
-origins_by s n e = go e.calls e.returns
-  where
-    go : (x y : Bool) → cond x (set s n e.origin) (cond y (set s (n - 1) 0) s) ≡ origins_after s n (cond x (pushes e.origin e.target) (cond y pops stays))
-    go true y = refl
-    go false true = refl
-    go false false = refl
-
-destinations_by : (s : List ℕ) (n : ℕ) (e : Arrays) → jump_words s n e.calls e.returns e.target ≡ destinations_after s n (jump_of e)
-unfolding jump_words
-destinations_by s n e = go e.calls e.returns
-  where
-    go : (x y : Bool) → cond x (set s n e.target) (cond y (set s (n - 1) 0) s) ≡ destinations_after s n (cond x (pushes e.origin e.target) (cond y pops stays))
-    go true y = refl
-    go false true = refl
-    go false false = refl
-
-pub performed-is : (s : VMState) (e : Arrays) (q : ℕ) (sponge : Sponge) (m : Memory) (r : VMState) (n count outs : ℕ) (stack origins destinations addresses values output : List ℕ) →
-    length e.words ≡ 16 → length e.output ≡ 5 → count ≡ min e.count 16 → outs ≡ min e.outputs 5 →
-    stack ≡ applied_stack m.op_stack s.depth e.pops (take count e.words) →
-    origins ≡ jump_words m.origins s.jumps e.calls e.returns e.origin →
-    destinations ≡ jump_words m.destinations s.jumps e.calls e.returns e.target →
-    cells n addresses values ≡ touched (cells s.cells m.addresses m.values) (writes_from e.addresses e.values e.reads e.writes) →
-    output ≡ paste m.output s.outputs e.output outs →
+pub performed-is : (s : VMState) (e : CodeEffect) (q : ℕ) (sponge : Sponge) (m : Memory) (r : VMState) (n : ℕ) (stack origins destinations addresses values output : List ℕ) →
+    stack ≡ applied_stack m.op_stack s.depth e.pops (take e.words.count e.words.words) →
+    origins ≡ origins_after m.origins s.jumps (jump_of e.jump) →
+    destinations ≡ destinations_after m.destinations s.jumps (jump_of e.jump) →
+    cells n addresses values ≡ touched (cells s.cells m.addresses m.values) (accesses_of e.accesses) →
+    output ≡ put m.output s.outputs (take e.output.count e.output.words) →
     r ≡ moved_to s e q sponge n →
     Performed s e q sponge m r (memory stack origins destinations addresses values output)
 unfolding effect_of
-performed-is s e q sponge m r n count outs stack origins destinations addresses values output words five hn hk hs ho hd hc hw hr =
-    let d = taken-length e.count 16 e.words words in
-    let o = taken-length e.outputs 5 e.output five in
+performed-is s e q sponge m r n stack origins destinations addresses values output hs ho hd hc hw hr =
     let t = writes_touch e (cells s.cells m.addresses m.values) ∙ sym hc in
-    let x : stack ≡ applied_stack m.op_stack s.depth e.pops (take e.count e.words) =
-    hs ∙ ap (λ (w : List ℕ). applied_stack m.op_stack s.depth e.pops w) (ap (λ (k : ℕ). take k e.words) hn ∙ take-least e.count 16 e.words words) in
-    let y : output ≡ put m.output s.outputs (take e.outputs e.output) =
-    hw ∙ copy_put m.output s.outputs e.output outs (omega arith)
-    ∙ ap (λ (w : List ℕ). put m.output s.outputs w) (ap (λ (k : ℕ). take k e.output) hk ∙ take-least e.outputs 5 e.output five) in
     record {
-      is = λ c. rw (hr, x, ho, hd, y, origins_by m.origins s.jumps e, destinations_by m.destinations s.jumps e, t, d, o, jumps_by_lem s.jumps e);
+      is = λ c. rw (hr, hs, ho, hd, hw, t);
     }
 
 -- the effect keeps the sponge
-pub performed-plain : (m : Machine) (e : Arrays) → performed m (effect_of e) ≡ performed_at m (effect_of e) (pointer_after m (effect_of e).next) m.state.sponge
+pub performed-plain : (m : Machine) (e : CodeEffect) → performed m (effect_of e) ≡ performed_at m (effect_of e) (pointer_after m (effect_of e).next) m.state.sponge
 unfolding performed effect_of
 performed-plain m e = refl
 
@@ -143,51 +110,40 @@ trace_touch (u32 p l r ∷ cs) o t c = trace_touch cs o t c
 trace_touch (ram_read a v ∷ cs) o t c = trace_touch cs o t c
 trace_touch (ram_write a v ∷ cs) o t c = trace_touch cs o t (stored c a v)
 
-hashed_touch : (h : Hashed) (cs : List Call) (c : Cells) → touched c (hashed_calls h cs) ≡ touched c cs
+recorded_touch : (r : Recorded) (cs : List Call) (c : Cells) → touched c (recorded_with r cs) ≡ touched c cs
 unfolding touched
-hashed_touch h cs c = go h.traces h.first
-  where
-    go : (x y : Bool) → touched c (cond x (cond y (tip5 h.opcode h.trace ∷ cs) (cs ++ (tip5 h.opcode h.trace ∷ []))) (reset ∷ cs)) ≡ touched c cs
-    go true true = refl
-    go true false = trace_touch cs h.opcode h.trace c
-    go false y = refl
+recorded_touch Reset cs c = refl
+recorded_touch (First o t) cs c = refl
+recorded_touch (Last o t) cs c = trace_touch cs o t c
 
 module _ (m : Machine) (h : Hashed) (e : Effect) where
-  pub hashed_performs : performed m (hashed_effect h e) ≡ performed_at m e (pointer_after m e.next) (sponge_after m.state.sponge (cond h.sponges (becomes h.sponge) keeps))
+  pub hashed_performs : performed m (hashed_effect h e) ≡ performed_at m e (pointer_after m e.next) (sponge_after m.state.sponge (sponge_change h.sponge))
   unfolding performed
-  hashed_performs = rw (hashed_touch h e.calls (ram m))
+  hashed_performs = rw (recorded_touch h.recorded e.calls (ram m))
 
   pub hashed_limits : limits_of m (hashed_effect h e) ≡ limits_of m e
   unfolding limits_of
-  hashed_limits = rw (hashed_touch h e.calls (ram m))
+  hashed_limits = rw (recorded_touch h.recorded e.calls (ram m))
 
 -- ---- what a sound machine and the facts of an effect give
 
-sizes_append : (v : ℕ) (xs ys : List Call) → call_sizes v (xs ++ ys) ≡ call_sizes v xs + call_sizes v ys
+pub sizes_append : (v : ℕ) (xs ys : List Call) → call_sizes v (xs ++ ys) ≡ call_sizes v xs + call_sizes v ys
 sizes_append v [] ys = omega arith
 sizes_append v (x ∷ xs) ys = omega (arith, sizes_append v xs ys)
 
-reads_bytes : (v : ℕ) (a w : List ℕ) (i n : ℕ) → call_sizes v (reads_from a w i n) ≡ 25 * n
-unfolding accesses_from
-reads_bytes v a w i zero = refl
-reads_bytes v a w i (suc n) = omega (arith, reads_bytes v a w (i + 1) n)
+accesses_sizes : (v : ℕ) (d : Direction) (xs : List Access) → call_sizes v (map (access_of d) xs) ≡ 25 * length xs
+accesses_sizes v d [] = refl
+accesses_sizes v Read (x ∷ xs) = omega (arith, accesses_sizes v Read xs)
+accesses_sizes v Write (x ∷ xs) = omega (arith, accesses_sizes v Write xs)
 
-writes_bytes : (v : ℕ) (a w : List ℕ) (i n : ℕ) → call_sizes v (writes_from a w i n) ≡ 25 * n
-unfolding accesses_from
-writes_bytes v a w i zero = refl
-writes_bytes v a w i (suc n) = omega (arith, writes_bytes v a w (i + 1) n)
+accesses_bytes : (v : ℕ) (a : Accesses) → a.count ≤ length a.cells → call_sizes v (accesses_of a) ≡ 25 * a.count
+unfolding first_accesses
+accesses_bytes v a h =
+    let l : length (take a.count a.cells) ≡ a.count = length-take-le a.count a.cells h in
+    accesses_sizes v a.direction (take a.count a.cells) ∙ ap (λ (n : ℕ). 25 * n) l
 
--- of which a trace, or a reset, has its own
-pub hashed-bytes : (v : ℕ) (h : Hashed) (cs : List Call) → call_sizes v (hashed_calls h cs) ≡ cond h.traces (tip5_bytes v) 4 + call_sizes v cs
-hashed-bytes v h cs = go h.traces h.first
-  where
-    go : (x y : Bool) → call_sizes v (cond x (cond y (tip5 h.opcode h.trace ∷ cs) (cs ++ (tip5 h.opcode h.trace ∷ []))) (reset ∷ cs)) ≡ cond x (tip5_bytes v) 4 + call_sizes v cs
-    go true true = refl
-    go true false = omega (arith, sizes_append v cs (tip5 h.opcode h.trace ∷ []))
-    go false y = refl
-
-pub fit_of : (m : Machine) (e : Arrays) → Sound m → e.pops ≤ 16 → e.reads + e.writes ≤ 10 → Fit m.state e m.memory
-fit_of m e s p n = record {
+pub fit_of : (m : Machine) (e : CodeEffect) → Sound m → e.pops ≤ 16 → Fit m.state e m.memory
+fit_of m e s p = record {
   pops = omega (arith, s.deep);
   depth = s.op_stack.used;
   stack_few = s.op_stack.few;
@@ -198,12 +154,11 @@ fit_of m e s p n = record {
   cells_few = s.cells.few;
   written = s.outputs;
   output_few = s.output_few;
-  accesses = n;
 }
 
-pub ready_of : (m : Machine) (e : Arrays) (change : SpongeChange) (cs : List Call) → Sound m → Facts m (with_sponge (effect_of e) change cs) → e.reads + e.writes ≤ 10 → limits_of m (effect_of e) ≡ 0 → Ready m.state e m.memory
+pub ready_of : (m : Machine) (e : CodeEffect) (change : SpongeChange) (cs : List Call) → Sound m → Facts m (with_sponge (effect_of e) change cs) → limits_of m (effect_of e) ≡ 0 → Ready m.state e m.memory
 unfolding effect_of
-ready_of m e change cs s f n l =
+ready_of m e change cs s f l =
     let g = limits_fit m (effect_of e) l in
     record {
       moves = record {
@@ -222,25 +177,21 @@ ready_of m e change cs s f n l =
         ordered = record { within = s.cells.used; ascending = s.cells.ascending };
         pair = s.cells.pair;
         fits = rw (← writes_touch e (ram m)) g.cells;
-        few = n;
       };
       output = g.output;
     }
 
-pub ready-plain : (m : Machine) (e : Arrays) → Sound m → Facts m (effect_of e) → e.reads + e.writes ≤ 10 → limits_of m (effect_of e) ≡ 0 → Ready m.state e m.memory
+pub ready-plain : (m : Machine) (e : CodeEffect) → Sound m → Facts m (effect_of e) → limits_of m (effect_of e) ≡ 0 → Ready m.state e m.memory
 unfolding effect_of
-ready-plain m e s f n l = ready_of m e keeps (effect_of e).calls s f n l
+ready-plain m e s f l = ready_of m e keeps (effect_of e).calls s f l
 
 -- ---- the bytes of an effect's calls, exactly
 
-u32s-bytes : (v n : ℕ) (a b : U32Call) → call_sizes v (u32s_of n a b) ≡ u32_bytes v * min n 2
-unfolding u32s_of
-u32s-bytes v zero a b = omega arith
-u32s-bytes v (suc zero) a b = omega arith
-u32s-bytes v (suc (suc n)) a b = let e : min (suc (suc n)) 2 ≡ 2 = omega arith in rw e (omega arith)
+u32s_bytes : (v : ℕ) (u : U32Calls) → call_sizes v (u32s_of u) ≡ u32_bytes v * u32_count u
+u32s_bytes v Zero = omega arith
+u32s_bytes v (One a) = omega arith
+u32s_bytes v (Two a b) = omega arith
 
-pub call-bytes : (v : ℕ) (e : Arrays) → call_sizes v (effect_of e).calls ≡ call_bytes v e
+pub call-bytes : (v : ℕ) (e : CodeEffect) → call_sizes v (effect_of e).calls ≡ call_bytes v e
 unfolding effect_of
-call-bytes v e =
-    simp sizes_append
-    (omega (arith, u32s-bytes v e.u32s e.u32_0 e.u32_1, reads_bytes v e.addresses e.values 0 e.reads, writes_bytes v e.addresses e.values e.reads e.writes))
+call-bytes v e = sizes_append v (u32s_of e.u32s) (accesses_of e.accesses) ∙ omega (arith, u32s_bytes v e.u32s, accesses_bytes v e.accesses e.accesses.fits)

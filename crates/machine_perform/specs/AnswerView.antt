@@ -1,11 +1,10 @@
 -- What the code's answers to a step stand for.
-use Rattle.std.specs.Prelude.{ℕ, ◌≡◌, List, eqb}
+use Rattle.std.specs.Prelude.{ℕ, ◌≡◌, eqb, Result, Ok, Err}
 use Rattle.tip5.specs.declared.sponge.Sponge.{Sponge}
-use Rattle.machine_perform.specs.declared.answer.Answer.{Answer}
-use Rattle.machine_perform.specs.declared.answer.Answer.TheVariants.{Took, Refused}
+use Rattle.machine.specs.declared.refusal.InstructionError.{InstructionError}
 use Rattle.machine_perform.specs.declared.answer.Moved.{Moved}
 use Rattle.machine.specs.declared.state.VMState.{VMState}
-use Rattle.machine_effects.specs.declared.effect.Effect.{Effect as Arrays}
+use Rattle.machine_effects.specs.declared.effect.Effect.{Effect as CodeEffect}
 use Rattle.choices.specs.Choice.{cond}
 use Rattle.machine.specs.Refusal.{Refusal, refusal_of, plainly}
 use Rattle.machine.specs.Machine.{Code, Memory, Machine, machine}
@@ -19,9 +18,9 @@ pub data Answered : Type 0 where
   did : Answered
   turned : Refusal → Answered
 
-abbrev pub answer_in : Answer → Answered
-answer_in Took = did
-answer_in (Refused e) = turned (refusal_of e)
+abbrev pub answer_in : Result (Unit {0}) InstructionError → Answered
+answer_in (Ok _) = did
+answer_in (Err e) = turned (refusal_of e)
 
 abbrev pub answered_by : Outcome → Answered
 answered_by (took x) = did
@@ -35,7 +34,7 @@ left_by m (kept r) = m
 left_by m (lost r x) = x
 
 -- the answer a and the machine x are those of the outcome o of a step from m
-pub record Gives (m : Machine) (o : Outcome) (a : Answer) (x : Machine) : Type 0 where
+pub record Gives (m : Machine) (o : Outcome) (a : Result (Unit {0}) InstructionError) (x : Machine) : Type 0 where
   pub answer : answer_in a ≡ answered_by o
   pub left : x ≡ left_by m o
 
@@ -44,10 +43,10 @@ abbrev pub settled_at : Machine → Effect → ℕ → Sponge → Outcome
 settled_at m e q s = cond (eqb (limits_of m e) 0) (took (performed_at m e q s)) (kept (plainly (limits_of m e)))
 
 -- what settling relies on: what a sound machine shows, and room for the effect where no limit is met
-pub record Settling (s : VMState) (e : Arrays) (m : Memory) : Type 0 where
+pub record Settling (s : VMState) (e : CodeEffect) (m : Memory) : Type 0 where
   pub fit : Fit s e m
   pub ready : (c : Code) → limits_of (machine s c m) (effect_of e) ≡ 0 → Ready s e m
 
 -- whatever the program and the inputs are
-pub record Settled (s : VMState) (e : Arrays) (q : ℕ) (sponge : Sponge) (m : Memory) (r : Moved) (n : Memory) : Type 0 where
+pub record Settled (s : VMState) (e : CodeEffect) (q : ℕ) (sponge : Sponge) (m : Memory) (r : Moved) (n : Memory) : Type 0 where
   pub is : (c : Code) → Gives (machine s c m) (settled_at (machine s c m) (effect_of e) q sponge) r.answer (machine r.state c n)

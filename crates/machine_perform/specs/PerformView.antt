@@ -1,49 +1,52 @@
 -- What the code of place D and of an effect's performance relies on and promises.
-use Rattle.std.specs.Prelude.{ℕ, zero, suc, ◌+◌, ◌-◌, ◌≤◌, min, ◌≡◌, Bool, true, false, List, [], length, take, get_or, set, eqb, Result}
+use Rattle.std.specs.Prelude.{ℕ, zero, suc, ◌+◌, ◌-◌, ◌≤◌, ◌≡◌, Bool, true, false, List, [], length, get_or, eqb, Result}
 use Rattle.tip5.specs.declared.sponge.Sponge.{Sponge}
 use Rattle.machine.specs.declared.state.VMState.{VMState}
 use Rattle.machine.specs.declared.refusal.PlaceD.{PlaceD}
 use Rattle.machine.specs.Refusal.{found_d}
-use Rattle.machine_effects.specs.declared.effect.Effect.{Effect as Arrays}
+use Rattle.machine_effects.specs.declared.effect.Effect.{Effect as CodeEffect}
+use Rattle.machine_effects.specs.declared.effect.Access.{Access}
+use Rattle.machine_effects.specs.declared.effect.Accesses.{Accesses}
+use Rattle.machine_effects.specs.declared.effect.Direction.TheVariants.{Write}
+use Rattle.machine_isa.specs.FewWords.{words_of}
 use Rattle.choices.specs.Choice.{cond}
 use Rattle.machine.specs.Ram.{Cells, cells, has}
 use Rattle.machine_ram.specs.RamView.{Ordered}
 use Rattle.machine.specs.Machine.{Code, Memory, machine, memory}
-use Rattle.machine_effects.specs.EffectView.{effect_of, writes_from}
-use Rattle.machine.specs.Apply.{touched, limits_of, performed_at, dropped}
+use Rattle.machine_effects.specs.EffectView.{effect_of, jump_of, accesses_of, first_accesses}
+use Rattle.machine.specs.Apply.{touched, jumps_after, limits_of, performed_at, dropped}
 use Rattle.machine.specs.PlaceA.{longest}
-
--- ---- jump stack, by whether an effect calls or returns: how many entries, and one of the two slices
-
-unfoldable pub jumps_by : ℕ → Bool → Bool → ℕ
-jumps_by n calls returns = cond calls (n + 1) (cond returns (n - 1) n)
-
-unfoldable pub jump_words : List ℕ → ℕ → Bool → Bool → ℕ → List ℕ
-jump_words s n calls returns w = cond calls (set s n w) (cond returns (set s (n - 1) 0) s)
 
 -- ---- RAM: how many cells a row of writes adds, where there is room for them
 
--- whether the address a is one of the n from place i on
-unfoldable pub among_of : List ℕ → ℕ → ℕ → ℕ → Bool
-among_of w i zero a = false
-among_of w i (suc n) a = cond (eqb (get_or w (i + n) 0) a) true (among_of w i n a)
+-- what stands behind the last
+abbrev pub no_access : Access
+no_access = record { address = 0; value = 0 }
+
+abbrev pub address_at : List Access → ℕ → ℕ
+address_at w k = (get_or w k no_access).address
+
+-- whether the address a is one of the first n
+unfoldable pub among_of : List Access → ℕ → ℕ → Bool
+among_of w zero a = false
+among_of w (suc n) a = cond (eqb (address_at w n) a) true (among_of w n a)
 
 -- whether it has a cell among the first n; what they hold does not matter
 unfoldable pub has_in : List ℕ → ℕ → ℕ → Bool
 has_in s n a = has (cells n s []) a
 
--- 1 where the write at place i + k, of those from place i on, adds a cell
-unfoldable pub new_of : List ℕ → ℕ → List ℕ → ℕ → ℕ → ℕ
-new_of s n w i k = cond (among_of w i k (get_or w (i + k) 0)) 0 (cond (has_in s n (get_or w (i + k) 0)) 0 1)
+-- 1 where write k adds a cell
+unfoldable pub new_of : List ℕ → ℕ → List Access → ℕ → ℕ
+new_of s n w k = cond (among_of w k (address_at w k)) 0 (cond (has_in s n (address_at w k)) 0 1)
 
-unfoldable pub fresh_of : List ℕ → ℕ → List ℕ → ℕ → ℕ → ℕ
-fresh_of s n w i zero = 0
-fresh_of s n w i (suc k) = fresh_of s n w i k + new_of s n w i k
+unfoldable pub fresh_of : List ℕ → ℕ → List Access → ℕ → ℕ
+fresh_of s n w zero = 0
+fresh_of s n w (suc k) = fresh_of s n w k + new_of s n w k
 
 -- ---- place D
 
--- what a sound machine shows, and at most ten accesses of RAM
-pub record Fit (s : VMState) (e : Arrays) (m : Memory) : Type 0 where
+-- what a sound machine shows
+pub record Fit (s : VMState) (e : CodeEffect) (m : Memory) : Type 0 where
   pub pops : e.pops ≤ s.depth
   pub depth : s.depth ≤ length m.op_stack
   pub stack_few : length m.op_stack ≤ longest
@@ -54,33 +57,28 @@ pub record Fit (s : VMState) (e : Arrays) (m : Memory) : Type 0 where
   pub cells_few : length m.addresses ≤ longest
   pub written : s.outputs ≤ length m.output
   pub output_few : length m.output ≤ longest
-  pub accesses : e.reads + e.writes ≤ 10
-
--- as much of it as place D's sums and search need
-pub record Sums (s : VMState) (e : Arrays) (stack origins addresses output : List ℕ) : Type 0 where
-  pub pops : e.pops ≤ s.depth
-  pub depth : s.depth ≤ longest
-  pub jumps : s.jumps ≤ longest
-  pub ordered : Ordered addresses s.cells
-  pub cells_few : length addresses ≤ longest
-  pub outputs : s.outputs ≤ longest
-  pub accesses : e.reads + e.writes ≤ 10
 
 -- the number, whatever the program and the inputs are
-pub record Limited (s : VMState) (e : Arrays) (m : Memory) (r : Result (Unit {0}) PlaceD) : Type 0 where
+pub record Limited (s : VMState) (e : CodeEffect) (m : Memory) (r : Result (Unit {0}) PlaceD) : Type 0 where
   pub is : (c : Code) → found_d r ≡ limits_of (machine s c m) (effect_of e)
 
 -- ---- performance
 
 -- a row of writes that has room
-pub record Writes (c : Cells) (a v : List ℕ) (i n : ℕ) : Type 0 where
+pub record WritesRow (c : Cells) (w : List Access) (n : ℕ) : Type 0 where
   pub ordered : Ordered c.addresses c.count
   pub pair : length c.addresses ≡ length c.values
-  pub fits : (touched c (writes_from a v i n)).count ≤ length c.addresses
-  pub few : i + n ≤ 10
+  pub fits : (touched c (first_accesses Write w n)).count ≤ length c.addresses
+  pub few : n ≤ length w
+
+-- accesses that have room
+pub record Writes (c : Cells) (a : Accesses) : Type 0 where
+  pub ordered : Ordered c.addresses c.count
+  pub pair : length c.addresses ≡ length c.values
+  pub fits : (touched c (accesses_of a)).count ≤ length c.addresses
 
 -- positions that do not overflow
-pub record Moves (s : VMState) (e : Arrays) : Type 0 where
+pub record Moves (s : VMState) (e : CodeEffect) : Type 0 where
   pub pops : e.pops ≤ s.depth
   pub depth : s.depth ≤ longest
   pub jumps : s.jumps ≤ longest
@@ -91,15 +89,15 @@ pub record Moves (s : VMState) (e : Arrays) : Type 0 where
   pub clock : s.clock ≤ 4294967294
 
 -- the registers after an effect, with this pointer and sponge and so many cells
-abbrev pub moved_to : VMState → Arrays → ℕ → Sponge → ℕ → VMState
+abbrev pub moved_to : VMState → CodeEffect → ℕ → Sponge → ℕ → VMState
 moved_to s e q sponge n =
     record {
       clock = s.clock + 1;
       pointer = q;
-      depth = s.depth - e.pops + min e.count 16;
-      jumps = jumps_by s.jumps e.calls e.returns;
+      depth = s.depth - e.pops + length (words_of e.words);
+      jumps = jumps_after s.jumps (jump_of e.jump);
       cells = n;
-      outputs = s.outputs + min e.outputs 5;
+      outputs = s.outputs + length (words_of e.output);
       publics = s.publics + e.publics;
       secrets = s.secrets + e.secrets;
       digests = s.digests + e.digests;
@@ -109,14 +107,14 @@ moved_to s e q sponge n =
     }
 
 -- there is room for the effect
-pub record Ready (s : VMState) (e : Arrays) (m : Memory) : Type 0 where
+pub record Ready (s : VMState) (e : CodeEffect) (m : Memory) : Type 0 where
   pub moves : Moves s e
   pub depth : s.depth ≤ length m.op_stack
-  pub deeper : s.depth - e.pops + length (take e.count e.words) ≤ length m.op_stack
-  pub writes : Writes (cells s.cells m.addresses m.values) e.addresses e.values e.reads e.writes
-  pub output : s.outputs + length (take e.outputs e.output) ≤ length m.output
+  pub deeper : s.depth - e.pops + length (words_of e.words) ≤ length m.op_stack
+  pub writes : Writes (cells s.cells m.addresses m.values) e.accesses
+  pub output : s.outputs + length (words_of e.output) ≤ length m.output
 
-pub record Performed (s : VMState) (e : Arrays) (q : ℕ) (sponge : Sponge) (m : Memory) (r : VMState) (n : Memory) : Type 0 where
+pub record Performed (s : VMState) (e : CodeEffect) (q : ℕ) (sponge : Sponge) (m : Memory) (r : VMState) (n : Memory) : Type 0 where
   pub is : (c : Code) → machine r c n ≡ performed_at (machine s c m) (effect_of e) q sponge
 
 -- all slices but the op stack stay

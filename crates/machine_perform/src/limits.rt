@@ -1,47 +1,45 @@
 // Place D: whether there is room for an effect.
-ghost use Rattle.std.specs.Prelude.{◌≡◌, ◌+◌, ◌-◌, ◌≤◌, min, length};
-ghost use Rattle.machine_ram.specs.RamView.{Ordered};
+ghost use Rattle.std.specs.Prelude.{◌≡◌, ◌+◌, ◌-◌, ◌≤◌, ◌<◌, length};
 ghost use Rattle.choices.specs.Choice.{first_of, above_of};
-ghost use Rattle.machine.specs.Lent.{shared_at, shared_in};
+ghost use Rattle.machine.specs.Ram.{cells};
+ghost use Rattle.machine.specs.Apply.{touched, jumps_after as jumps_by};
+ghost use Rattle.machine.specs.Lent.{seen};
 ghost use Rattle.machine.specs.Refusal.{number_d, found_d};
-ghost use Rattle.machine_perform.specs.PerformView.{jumps_by, among_of, new_of, fresh_of, Fit, Sums, Limited};
+ghost use Rattle.machine_ram.specs.LentCells.{cells_of};
+ghost use Rattle.machine_effects.specs.EffectView.{jump_of, accesses_of, first_accesses};
+ghost use Rattle.machine_effects.specs.declared.effect.Direction.TheVariants.{Write};
+ghost use Rattle.machine_isa.specs.FewWords.{words_of};
+ghost use Rattle.machine_perform.specs.PerformView.{among_of, new_of, fresh_of, Fit, Limited};
 
-use choices::numbers::least;
+use machine::lent::SeenMemory;
 use machine::refusal::PlaceD;
 use machine::state::VMState;
-use machine_effects::effect::Effect;
-use machine_isa::op_stack::over;
-use machine_ram::near;
-use machine_ram::ram::Found;
+use machine_effects::effect::{Access, Accesses, Direction, Effect, JumpChange};
+use machine_ram::ram::Ram;
 
-// How many entries the jump stack has after an effect.
-pub fn jumps_after(n: usize, calls: bool, returns: bool) -> usize
+// How many entries the jump stack has after a change.
+pub fn jumps_after(n: usize, change: JumpChange) -> usize
     requires { n ≤ 16777216 }
-    ensures { result ≡ jumps_by n calls returns }
+    ensures { result ≡ jumps_by n (jump_of change) }
 {
-    if calls {
-        return n + 1;
+    match change {
+        JumpChange::Stays => n,
+        JumpChange::Pushes(_) => n + 1,
+        JumpChange::Pops => n.saturating_sub(1),
     }
-    if returns {
-        return over(n, 1);
-    }
-    n
 }
 
-// Whether an address is one of the n from place `from` on.
-fn among(written: [u64; 10], from: usize, n: usize, address: u64) -> bool
-    requires { from + n ≤ 10 }
-    ensures { result ≡ among_of written from n address }
+// Whether an address is one of the first n.
+fn among(writes: &[Access], n: usize, address: u64) -> bool
+    requires { n ≤ length writes.now }
+    ensures { result ≡ among_of writes.now n address }
 {
-    let mut found = false;
-    let mut i = 0;
-    while i < n {
-        if written[from + i] == address {
-            found = true;
+    for i in 0..n {
+        if writes[i].address == address {
+            return true;
         }
-        i += 1;
     }
-    found
+    false
 }
 
 // How many cells a write adds, and the place of its address or a guess at it.
@@ -51,50 +49,35 @@ struct Added {
     place: usize,
 }
 
-// One where the write at place from + i has an address with no cell, and no write before it has the same.
-fn new_cell(
-    addresses: &[u64],
-    count: usize,
-    written: [u64; 10],
-    from: usize,
-    i: usize,
-    guess: usize,
-) -> Added
-    requires { (Ordered addresses.now count) × (from + i + 1 ≤ 10) }
-    ensures { result.cells ≡ new_of addresses.now count written from i }
+// One where the address of write i has no cell, and no write before it has the same.
+fn new_cell(ram: &Ram<'_>, writes: &[Access], i: usize, guess: usize) -> Added
+    requires { i < length writes.now }
+    ensures { result.cells ≡ new_of ram.now.addresses.now ram.now.count writes.now i }
 {
-    let address = written[from + i];
-    if among(written, from, i, address) {
+    let address = writes[i].address;
+    if among(writes, i, address) {
         return Added {
             cells: 0,
             place: guess,
         };
     }
-    match near::find(addresses, count, address, guess) {
-        Found::At(place) => Added {
-            cells: 0,
-            place: place,
-        },
-        Found::Absent(place) => Added {
-            cells: 1,
-            place: place,
-        },
+    match ram.find_near(address, guess) {
+        Ok(place) => Added { cells: 0, place },
+        Err(place) => Added { cells: 1, place },
     }
 }
 
-// How many cells the n writes from place `from` on add; they are looked for as write_all does.
-fn fresh(addresses: &[u64], count: usize, written: [u64; 10], from: usize, n: usize) -> usize
-    requires { (Ordered addresses.now count) × (from + n ≤ 10) }
-    ensures { result ≡ fresh_of addresses.now count written from n }
+// How many cells the first n writes add; they are looked for as write_row does.
+fn fresh(ram: &Ram<'_>, writes: &[Access], n: usize) -> usize
+    requires { n ≤ length writes.now }
+    ensures { result ≡ fresh_of ram.now.addresses.now ram.now.count writes.now n }
 {
     let mut more = 0;
-    let mut guess = count;
-    let mut i = 0;
-    while i < n {
-        let added = new_cell(addresses, count, written, from, i, guess);
+    let mut guess = ram.count;
+    for i in 0..n {
+        let added = new_cell(ram, writes, i, guess);
         more += added.cells;
         guess = added.place;
-        i += 1;
     }
     more
 }
@@ -107,64 +90,57 @@ fn check_room(needed: usize, most: usize, error: PlaceD) -> Result<(), PlaceD>
     if most < needed { Err(error) } else { Ok(()) }
 }
 
-// The cells that the writes need. Addresses are looked for only where the table is nearly full.
-fn check_cells(
-    addresses: &[u64],
-    count: usize,
-    written: [u64; 10],
-    from: usize,
-    n: usize,
-) -> Result<(), PlaceD>
-    requires { (Ordered addresses.now count) × (from + n ≤ 10) × (length addresses.now ≤ 16777216) }
-    ensures { found_d result ≡ above_of (count + fresh_of addresses.now count written from n) (length addresses.now) 32 }
+// The cells that the first n writes need. Addresses are looked for only where the table is nearly full.
+fn check_writes(ram: &Ram<'_>, writes: &[Access], n: usize) -> Result<(), PlaceD>
+    requires { (n ≤ length writes.now) × (n ≤ 10) × (length ram.now.addresses.now ≤ 16777216) × (length ram.now.addresses.now ≡ length ram.now.values.now) }
+    ensures { found_d result ≡ above_of (touched (cells_of ram.now) (first_accesses Write writes.now n)).count (length ram.now.addresses.now) 32 }
 {
-    if count + n <= addresses.len() {
+    if ram.count + n <= ram.addresses.len() {
         return Ok(());
     }
-    let more = fresh(addresses, count, written, from, n);
-    check_room(count + more, addresses.len(), PlaceD::RamFull)
+    let more = fresh(ram, writes, n);
+    check_room(ram.count + more, ram.addresses.len(), PlaceD::RamFull)
 }
 
-// The first that applies. An array has no more words than it is long, whatever its count.
-#[tactic(auto, unfolding(choices::specs::Choice::first_of))]
-fn first_full(
-    state: VMState,
-    effect: Effect,
-    op_stack: &[u64],
-    origins: &[u64],
-    addresses: &[u64],
-    output: &[u64],
-) -> Result<(), PlaceD>
-    requires { Sums state effect op_stack.now origins.now addresses.now output.now }
-    ensures { found_d result ≡ first_of (above_of (state.depth - effect.pops + min effect.count 16) (length op_stack.now) 30)
-        (first_of (above_of (jumps_by state.jumps effect.calls effect.returns) (length origins.now) 31)
-        (first_of (above_of (state.cells + fresh_of addresses.now state.cells effect.addresses effect.reads effect.writes) (length addresses.now) 32)
-        (first_of (above_of (state.outputs + min effect.outputs 5) (length output.now) 33)
-        (above_of state.clock 4294967294 34)))) }
+// Reads need none.
+fn check_cells(ram: &Ram<'_>, accesses: &Accesses) -> Result<(), PlaceD>
+    requires { (length ram.now.addresses.now ≤ 16777216) × (length ram.now.addresses.now ≡ length ram.now.values.now) }
+    ensures { found_d result ≡ above_of (touched (cells_of ram.now) (accesses_of accesses.now)).count (length ram.now.addresses.now) 32 }
 {
-    let depth = state.depth - effect.pops + least(effect.count, 16);
-    check_room(depth, op_stack.len(), PlaceD::OpStackFull)?;
-    let jumps = jumps_after(state.jumps, effect.calls, effect.returns);
-    check_room(jumps, origins.len(), PlaceD::JumpStackFull)?;
-    let written = effect.addresses;
-    check_cells(addresses, state.cells, written, effect.reads, effect.writes)?;
-    let outputs = state.outputs + least(effect.outputs, 5);
-    check_room(outputs, output.len(), PlaceD::OutputFull)?;
+    match accesses.direction {
+        Direction::Read => Ok(()),
+        Direction::Write => check_writes(ram, &accesses.cells, accesses.count),
+    }
+}
+
+// The first that applies.
+#[tactic(auto, unfolding(choices::specs::Choice::first_of))]
+fn first_full(state: &VMState, effect: &Effect, memory: &SeenMemory<'_>) -> Result<(), PlaceD>
+    requires { Fit state.now effect.now (seen memory.now) }
+    ensures { found_d result ≡ first_of (above_of (state.now.depth - effect.now.pops + length (words_of effect.now.words)) (length memory.now.op_stack.now) 30)
+        (first_of (above_of (jumps_by state.now.jumps (jump_of effect.now.jump)) (length memory.now.origins.now) 31)
+        (first_of (above_of (touched (cells state.now.cells memory.now.addresses.now memory.now.values.now) (accesses_of effect.now.accesses)).count (length memory.now.addresses.now) 32)
+        (first_of (above_of (state.now.outputs + length (words_of effect.now.output)) (length memory.now.output.now) 33)
+        (above_of state.now.clock 4294967294 34)))) }
+{
+    let depth = state.depth - effect.pops + effect.words.as_slice().len();
+    check_room(depth, memory.op_stack.len(), PlaceD::OpStackFull)?;
+    let jumps = jumps_after(state.jumps, effect.jump);
+    check_room(jumps, memory.origins.len(), PlaceD::JumpStackFull)?;
+    let ram = Ram {
+        addresses: memory.addresses,
+        values: memory.values,
+        count: state.cells,
+    };
+    check_cells(&ram, &effect.accesses)?;
+    let outputs = state.outputs + effect.output.as_slice().len();
+    check_room(outputs, memory.output.len(), PlaceD::OutputFull)?;
     check_room(state.clock as usize, 4294967294, PlaceD::ClockAtEnd)
 }
 
-pub fn limits(
-    state: VMState,
-    effect: Effect,
-    op_stack: &[u64],
-    origins: &[u64],
-    destinations: &[u64],
-    addresses: &[u64],
-    values: &[u64],
-    output: &[u64],
-) -> Result<(), PlaceD>
-    requires { Fit state effect (shared_at op_stack origins destinations addresses values output) }
-    ensures { Limited state effect (shared_in op_stack origins destinations addresses values output) result }
+pub fn limits(state: &VMState, effect: &Effect, memory: &SeenMemory<'_>) -> Result<(), PlaceD>
+    requires { Fit state.now effect.now (seen memory.now) }
+    ensures { Limited state.now effect.now (seen memory.now) result }
 {
-    first_full(state, effect, op_stack, origins, addresses, output)
+    first_full(state, effect, memory)
 }

@@ -1,19 +1,22 @@
 // What an effect makes of the machine: each slice in its own function, and the registers last.
-ghost use Rattle.std.specs.Prelude.{◌≡◌, ◌≤◌, set};
+ghost use Rattle.std.specs.Prelude.{◌≡◌, ◌+◌, ◌-◌, ◌≤◌, length, set};
 ghost use Rattle.machine.specs.Ram.{cells};
-ghost use Rattle.machine.specs.Lent.{memory_at, memory_in, memory_out};
-ghost use Rattle.machine_effects.specs.EffectView.{writes_from};
-ghost use Rattle.machine.specs.Apply.{touched};
-ghost use Rattle.machine_perform.specs.PerformView.{jump_words, Writes, Moves, moved_to, Ready, Performed, Dropped};
+ghost use Rattle.machine.specs.Lent.{memory_of, Keeps};
+ghost use Rattle.machine.specs.Apply.{put, applied_stack, touched, origins_after, destinations_after};
+ghost use Rattle.machine_ram.specs.LentCells.{cells_of_mut, Keeps as KeepsRam};
+ghost use Rattle.machine_isa.specs.FewWords.{words_of};
+ghost use Rattle.machine_effects.specs.declared.effect.Direction.TheVariants.{Write};
+ghost use Rattle.machine_effects.specs.EffectView.{jump_of, accesses_of, first_accesses};
+ghost use Rattle.machine_perform.specs.PerformView.{WritesRow, Writes, Moves, moved_to, Ready, Performed, Dropped};
 
 use crate::limits::jumps_after;
-use choices::numbers::least;
+use machine::lent::LentMemory;
 use machine::state::VMState;
-use machine_effects::effect::Effect;
-use machine_isa::op_stack::{apply, over};
-use machine_ram::near;
+use machine_effects::effect::{Access, Accesses, Direction, Effect, JumpChange};
+use machine_isa::few::Few;
+use machine_isa::op_stack::apply;
+use machine_ram::ram_mut::RamMut;
 use tip5::sponge::Sponge;
-use tip5::words::copy;
 
 // Stores a word; a place that the slice does not have is left alone.
 fn store(s: &mut [u64], at: usize, word: u64)
@@ -24,65 +27,103 @@ fn store(s: &mut [u64], at: usize, word: u64)
     }
 }
 
-// One of the jump stack's two slices: a word is put on where the effect calls, and the top one is 0 where it returns.
-fn change_jumps(s: &mut [u64], n: usize, calls: bool, returns: bool, word: u64)
-    ensures { s.new ≡ jump_words s.old n calls returns word }
+// The jump stack's two slices: an entry is put on, or the top one becomes 0.
+fn change_jumps(origins: &mut [u64], destinations: &mut [u64], n: usize, change: JumpChange)
+    ensures origins { origins.new ≡ origins_after origins.old n (jump_of change) }
+    ensures destinations { destinations.new ≡ destinations_after destinations.old n (jump_of change) }
 {
-    if calls {
-        store(s, n, word);
-        return;
-    }
-    if returns {
-        store(s, over(n, 1), 0);
+    match change {
+        JumpChange::Stays => {}
+        JumpChange::Pushes(entry) => {
+            store(origins, n, entry.origin);
+            store(destinations, n, entry.destination);
+        }
+        JumpChange::Pops => {
+            let top = n.saturating_sub(1);
+            store(origins, top, 0);
+            store(destinations, top, 0);
+        }
     }
 }
 
-// The n writes of RAM from place `from` on, in order; gives how many cells are used then. The first is looked for at the end, each other
-// beside the one before.
-fn write_all(
+// The first n writes of RAM, in order. The first is looked for at the end, each other beside the one before.
+fn write_row(ram: &mut RamMut<'_>, writes: &[Access], n: usize)
+    requires { WritesRow (cells_of_mut ram.old) writes.now n }
+    ensures touched { cells_of_mut ram.new ≡ touched (cells_of_mut ram.old) (first_accesses Write writes.now n) }
+    ensures lent { KeepsRam ram.old ram.new }
+{
+    let mut guess = ram.count;
+    for i in 0..n {
+        let access = writes[i];
+        guess = ram.write_near(access.address, access.value, guess);
+    }
+}
+
+// The same of two slices; gives how many cells are used then.
+fn write_cells(
     addresses: &mut [u64],
     values: &mut [u64],
     count: usize,
-    written: [u64; 10],
-    words: [u64; 10],
-    from: usize,
+    writes: &[Access],
     n: usize,
 ) -> usize
-    requires { Writes (cells count addresses.old values.old) written words from n }
-    ensures { cells result addresses.new values.new ≡ touched (cells count addresses.old values.old) (writes_from written words from n) }
+    requires { WritesRow (cells count addresses.old values.old) writes.now n }
+    ensures { cells result addresses.new values.new ≡ touched (cells count addresses.old values.old) (first_accesses Write writes.now n) }
 {
-    let mut used = count;
-    let mut guess = count;
-    let mut i = 0;
-    while i < n {
-        let at = from + i;
-        let put = near::write(addresses, values, used, written[at], words[at], guess);
-        used = put.count;
-        guess = put.place;
-        i += 1;
-    }
-    used
+    let mut ram = RamMut {
+        addresses,
+        values,
+        count,
+    };
+    write_row(&mut ram, writes, n);
+    ram.count
 }
 
-// The registers: only pointer and sponge do not follow from the effect's arrays.
-fn moved(state: VMState, effect: Effect, pointer: u64, sponge: Sponge, used: usize) -> VMState
-    requires { Moves state effect }
-    ensures { result ≡ moved_to state effect pointer sponge used }
+// An effect's accesses, of which writes change RAM; gives how many cells are used then.
+fn write_all(addresses: &mut [u64], values: &mut [u64], count: usize, accesses: &Accesses) -> usize
+    requires { Writes (cells count addresses.old values.old) accesses.now }
+    ensures { cells result addresses.new values.new ≡ touched (cells count addresses.old values.old) (accesses_of accesses.now) }
 {
-    let count = least(effect.count, 16);
-    let outputs = least(effect.outputs, 5);
-    let jumps = jumps_after(state.jumps, effect.calls, effect.returns);
+    match accesses.direction {
+        Direction::Read => count,
+        Direction::Write => write_cells(addresses, values, count, &accesses.cells, accesses.count),
+    }
+}
+
+// The op stack after words are taken off and others put on.
+fn put_words(stack: &mut [u64], depth: usize, pops: usize, words: &Few<16>)
+    requires { (pops ≤ depth) × (depth ≤ length stack.old) × (depth - pops + length (words_of words.now) ≤ length stack.old) }
+    ensures { stack.new ≡ applied_stack stack.old depth pops (words_of words.now) }
+{
+    apply(stack, depth, pops, words);
+}
+
+// Puts words behind those that are out.
+fn put_out(output: &mut [u64], at: usize, words: &Few<5>)
+    requires { at + length (words_of words.now) ≤ length output.old }
+    ensures { output.new ≡ put output.old at (words_of words.now) }
+{
+    let s = words.as_slice();
+    output[at..at + s.len()].copy_from_slice(s);
+}
+
+// The registers: only pointer and sponge do not follow from the effect.
+fn moved(state: &VMState, effect: &Effect, pointer: u64, sponge: &Sponge, used: usize) -> VMState
+    requires { Moves state.now effect.now }
+    ensures { result ≡ moved_to state.now effect.now pointer sponge.now used }
+{
+    let jumps = jumps_after(state.jumps, effect.jump);
     VMState {
         clock: state.clock + 1,
-        pointer: pointer,
-        depth: state.depth - effect.pops + count,
-        jumps: jumps,
+        pointer,
+        depth: state.depth - effect.pops + effect.words.as_slice().len(),
+        jumps,
         cells: used,
-        outputs: state.outputs + outputs,
+        outputs: state.outputs + effect.output.as_slice().len(),
         publics: state.publics + effect.publics,
         secrets: state.secrets + effect.secrets,
         digests: state.digests + effect.digests,
-        sponge: sponge,
+        sponge: *sponge,
         halted: effect.halts,
         revision: state.revision,
     }
@@ -90,46 +131,41 @@ fn moved(state: VMState, effect: Effect, pointer: u64, sponge: Sponge, used: usi
 
 // The machine after an effect, with this pointer and this sponge.
 pub fn perform(
-    state: VMState,
-    effect: Effect,
+    state: &VMState,
+    effect: &Effect,
     pointer: u64,
-    sponge: Sponge,
-    op_stack: &mut [u64],
-    origins: &mut [u64],
-    destinations: &mut [u64],
-    addresses: &mut [u64],
-    values: &mut [u64],
-    output: &mut [u64],
+    sponge: &Sponge,
+    memory: &mut LentMemory<'_>,
 ) -> VMState
-    requires { Ready state effect (memory_at op_stack origins destinations addresses values output) }
-    ensures { Performed state effect pointer sponge (memory_in op_stack origins destinations addresses values output) result (memory_out op_stack origins destinations addresses values output) }
+    requires { Ready state.now effect.now (memory_of memory.old) }
+    ensures performed { Performed state.now effect.now pointer sponge.now (memory_of memory.old) result (memory_of memory.new) }
+    ensures lent { Keeps memory.old memory.new }
 {
-    let words = effect.words;
-    let count = least(effect.count, 16);
-    apply(op_stack, state.depth, effect.pops, words, count);
-    let n = state.jumps;
-    let calls = effect.calls;
-    let returns = effect.returns;
-    change_jumps(origins, n, calls, returns, effect.origin);
-    change_jumps(destinations, n, calls, returns, effect.target);
-    let at = effect.addresses;
-    let held = effect.values;
-    let reads = effect.reads;
-    let writes = effect.writes;
-    let used = write_all(addresses, values, state.cells, at, held, reads, writes);
-    let out = effect.output;
-    copy(output, state.outputs, &out, least(effect.outputs, 5));
+    put_words(memory.op_stack, state.depth, effect.pops, &effect.words);
+    change_jumps(
+        memory.origins,
+        memory.destinations,
+        state.jumps,
+        effect.jump,
+    );
+    let used = write_all(
+        memory.addresses,
+        memory.values,
+        state.cells,
+        &effect.accesses,
+    );
+    put_out(memory.output, state.outputs, &effect.output);
     moved(state, effect, pointer, sponge, used)
 }
 
 // The top word of the op stack dropped, all else as it was.
-pub fn drop_top(state: VMState, op_stack: &mut [u64]) -> VMState
-    requires { 1 ≤ state.depth }
-    ensures { Dropped state op_stack.old result op_stack.new }
+pub fn drop_top(state: &VMState, op_stack: &mut [u64]) -> VMState
+    requires { 1 ≤ state.now.depth }
+    ensures { Dropped state.now op_stack.old result op_stack.new }
 {
     let depth = state.depth - 1;
     store(op_stack, depth, 0);
-    let mut next = state;
+    let mut next = *state;
     next.depth = depth;
     next
 }

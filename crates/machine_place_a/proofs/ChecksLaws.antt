@@ -1,7 +1,7 @@
 -- What the turns of place A's loops show. Assumes nothing.
-use mathlib.Core.Path.{◌≡◌, refl, sym, ap, ◌∙◌}
+use mathlib.Core.Path.{◌≡◌, refl, sym, ◌∙◌}
 use mathlib.Core.Bool.{Bool, true, false, ◌&&◌}
-use mathlib.Core.List.{List, []}
+use mathlib.Core.List.{List}
 use Prim.Native.Nat.{ℕ, zero, suc, ◌+◌, ◌-◌, ◌≤◌, ◌<◌, min}
 use native.Mathlib.Numerals.{add-one}
 use native.Mathlib.Omega.{arith}
@@ -9,21 +9,18 @@ use borrow.Author.Tests.{eqb-true, eqb-false, ltb-true, ltb-false}
 use lib.ListN.{length, get_or, take}
 use lib.Seq.{get_or-take, length-take-le}
 use lib.Dec.{eqb, ltb}
-use Rattle.std.specs.Prelude.{Result, Ok, Err, IsErrAnd}
+use Rattle.std.specs.Prelude.{Result, Ok, Err}
 use Rattle.std.specs.Result.{result_and}
-use Rattle.machine.specs.Ram.{fall_of, falls_of}
 use Rattle.machine.specs.declared.refusal.PlaceA.{PlaceA}
-use Rattle.machine.specs.declared.refusal.PlaceA.TheVariants as A
 use Rattle.machine.specs.Refusal.{number_a, found_a}
 use Rattle.field.specs.Base.{p}
 use Rattle.choices.specs.Choice.{cond, first_of, above_of}
 use Rattle.machine.specs.Words.{word_of2, words_of, zeros_from}
-use Rattle.machine.specs.Instruction.{Decoded, known, unknown, known_in, decode}
-use Rattle.machine.specs.Machine.{Code, Memory, code}
-use Rattle.machine.specs.PlaceA.{code1, memory1, unknown3, argument4, opcodes3, arguments4, code34}
+use Rattle.machine.specs.Instruction.{decode}
+use Rattle.machine.specs.Machine.{Code}
+use Rattle.machine.specs.PlaceA.{unknown3, argument4, opcodes3, arguments4, code34}
 use Rattle.machine.proofs.Refused.{number_a_some}
-use Rattle.choices.proofs.Choice.{first_zero, first-left, first-nil, above-not, above-is, differ_nil}
-use Rattle.machine.proofs.Words.{word_fine, word_not}
+use Rattle.choices.proofs.Choice.{first_zero, first-left, above-not, above-is}
 
 -- ---- loops
 
@@ -132,16 +129,3 @@ slots_end c i f l m h k =
     let e : i ≡ length c.opcodes = omega arith in
     let z : opcodes3 c.opcodes (length c.opcodes) ≡ 0 = rw (← e) h in
     k ∙ rw e (sym (first_zero _ _ z))
-
--- ---- neighbours
-
--- falls_of gives no other number
-pub falls_five : (s : List ℕ) (n : ℕ) → (falls_of s n ≡ 0 → ⊥) → 5 ≡ falls_of s n
-unfolding falls_of fall_of first_of
-falls_five s zero h = absurd (h refl)
-falls_five s (suc n) h = go (falls_five s n) (eqb (falls_of s n) 0) refl (ltb (get_or s n 0) (get_or s (suc n) 0)) refl
-  where
-    go : ((falls_of s n ≡ 0 → ⊥) → 5 ≡ falls_of s n) → (a : Bool) → eqb (falls_of s n) 0 ≡ a → (b : Bool) → ltb (get_or s n 0) (get_or s (suc n) 0) ≡ b → 5 ≡ falls_of s (suc n)
-    go ih true e true k = absurd (h (rw (e, k) refl))
-    go ih true e false k = rw (e, k) refl
-    go ih false e b k = rw e (ih (eqb-false (falls_of s n) 0 e))

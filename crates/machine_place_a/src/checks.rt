@@ -7,15 +7,14 @@ ghost use Rattle.machine.specs.Refusal.{found_a};
 ghost use Rattle.machine.specs.Words.{word_of2, words_of};
 ghost use Rattle.machine.specs.Ram.{cells as cells_of, cells1, cells2, cells5, falls_of};
 ghost use Rattle.machine.specs.Machine.{machine, code};
-ghost use Rattle.machine.specs.Instruction.{decode};
 ghost use Rattle.machine.specs.Lent.{code_of, seen};
-ghost use Rattle.machine.specs.PlaceA.{longest, too_long, most_bytes, code1, memory1, code2, used2, unknown3, argument4, machine2, code34, revision4, unused5, machine5, machine_a, open_a};
+ghost use Rattle.machine.specs.PlaceA.{longest, too_long, most_bytes, code1, memory1, code2, used2, machine2, code34, revision4, unused5, machine5, machine_a, open_a};
 
 use field::base::P;
 use machine::lent::{LentCode, SeenMemory};
 use machine::refusal::PlaceA;
 use machine::state::VMState;
-use machine_isa::instruction;
+use machine_isa::instruction::{self, check_argument, check_opcode};
 use machine_ram::ram;
 
 // How many words, or bytes, a slice may have.
@@ -172,27 +171,6 @@ fn check_machine_words(
 
 // ---- 3 and 4: slots and the revision
 
-#[tactic(auto, unfolding(machine::specs::PlaceA::unknown3))]
-fn check_opcode(opcode: u64) -> Result<(), PlaceA>
-    ensures { found_a result ≡ unknown3 (decode opcode) }
-{
-    if instruction::unknown_fault(opcode) == 0 {
-        Ok(())
-    } else {
-        Err(PlaceA::InvalidOpcode)
-    }
-}
-
-fn check_argument(opcode: u64, argument: u64) -> Result<(), PlaceA>
-    ensures { found_a result ≡ argument4 (decode opcode) argument }
-{
-    if instruction::argument_fault(opcode, argument) == 0 {
-        Ok(())
-    } else {
-        Err(PlaceA::IllegalArgument)
-    }
-}
-
 // One pass serves both: an unknown opcode anywhere comes before an argument that is not allowed.
 fn check_slots(code: &LentCode<'_>) -> Result<(), PlaceA>
     requires { length code.now.opcodes.now ≤ length code.now.arguments.now }
@@ -244,7 +222,7 @@ fn check_ascending(addresses: &[u64], count: usize) -> Result<(), PlaceA>
     requires { count ≤ length addresses.now }
     ensures { found_a result ≡ falls_of addresses.now (count - 1) }
 {
-    if ram::falls(addresses, count) == 0 {
+    if ram::is_ascending(addresses, count) {
         Ok(())
     } else {
         Err(PlaceA::BadState)

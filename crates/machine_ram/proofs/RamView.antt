@@ -1,12 +1,13 @@
 -- What the turns of RAM's loops show. Assumes nothing.
-use Rattle.std.proofs.Common.{◌≡◌, ℕ, zero, suc, ◌+◌, ◌-◌, ◌/◌, ◌<◌, ◌≤◌, Bool, true, false, eqb, ltb, List, get_or, set, sym, refl, ap, ◌∙◌, true≢false, add-zero, add-suc, arith, ltb-false, ltb-true, eqb-true}
+use Rattle.std.proofs.Common.{◌≡◌, ℕ, zero, suc, ◌+◌, ◌-◌, ◌/◌, ◌<◌, ◌≤◌, Bool, true, false, eqb, ltb, List, length, get_or, set, take, drop, sym, refl, ap, ◌∙◌, true≢false, append_assoc, arith, ltb-false, ltb-true, eqb-true, ◌⊎◌, inl, inr, Ok, Err, drop-cons}
+use Rattle.std.specs.List.{IsAllAdjacentAnswer, copy_within}
+use Rattle.std.proofs.lemmas.List.{get_or-take, length-take-le, set_at}
+use Rattle.std.proofs.Math.Seq.{paste, paste-zero, take-suc}
 use borrow.Author.Tests.{eqb-false}
 use Rattle.choices.specs.Choice.{cond, first_of}
-use Rattle.machine_ram.specs.RamView.{Ordered, Spotted, Above, Below, Guessed, Room, Stored}
+use Rattle.machine_ram.specs.RamView.{Ordered, Spotted, Looked, Above, Below, Guessed, Room, Stored}
 use Rattle.machine.specs.Ram.{Cells, cells, at, absent, place_from, place_of, find, held, moved_up, inserted, stored, fall_of, falls_of}
-use Rattle.choices.proofs.Choice.{first_zero, first-left}
-use Rattle.machine.proofs.Moves.{moved_before}
-use Rattle.machine.proofs.RamLaws.{place_within, place_before, place_here, ascending_rises, stands-is, stands-not, find_at, find_absent, stored_addresses, fall_not, fall_is, stored-ascending}
+use Rattle.machine.proofs.RamLaws.{place_within, place_before, place_here, ascending_rises, stands-is, stands-not, find_at, find_absent, stored_addresses, falls_fine, falls_nil, stored-ascending}
 
 -- ---- the search: the place is behind a lesser address, and not behind another
 
@@ -82,19 +83,20 @@ turn_last s n a from left last o h d r = go (ltb (get_or s from 0) a) refl
 
 -- ---- what is found there
 
-place_of_lem : (s v : List ℕ) (n a i x : ℕ) → Spotted s n a i x → place_of (cells n s v) a ≡ i
+pub found_here : (s v : List ℕ) (n a i : ℕ) → i ≡ place_from s a n 0 → i < n → get_or s i 0 ≡ a → at i ≡ find (cells n s v) a
 unfolding place_of
-place_of_lem s v n a i x q = sym q.is
+found_here s v n a i q h e = sym (find_at (cells n s v) a (rw (← q) (stands-is (cells n s v) i a h e)) ∙ rw (← q))
 
-pub found_here : (s v : List ℕ) (n a i x : ℕ) → Spotted s n a i x → i < n → x ≡ a → at i ≡ find (cells n s v) a
-found_here s v n a i x q h e =
-    let k = place_of_lem s v n a i x q in
-    sym (find_at (cells n s v) a (rw k (stands-is (cells n s v) i a h (sym (q.word h) ∙ e))) ∙ rw k)
+pub found-not : (s v : List ℕ) (n a i : ℕ) → i ≡ place_from s a n 0 → (i < n → get_or s i 0 ≡ a → ⊥) → absent i ≡ find (cells n s v) a
+unfolding place_of
+found-not s v n a i q h = sym (find_absent (cells n s v) a (rw (← q) (stands-not (cells n s v) i a h)) ∙ rw (← q))
 
-pub found-not : (s v : List ℕ) (n a i x : ℕ) → Spotted s n a i x → (i < n → x ≡ a → ⊥) → absent i ≡ find (cells n s v) a
-found-not s v n a i x q h =
-    let k = place_of_lem s v n a i x q in
-    sym (find_absent (cells n s v) a (rw k (stands-not (cells n s v) i a (λ l e. h l (q.word l ∙ e)))) ∙ rw k)
+-- by halves
+pub spotted-found : {s : List ℕ} {n a i x : ℕ} → Spotted s n a i x → i < n → x ≡ a → Looked s n a (Ok i)
+spotted-found {s} {n} {a} {i} q h e = record { is = λ v. found_here s v n a i q.is h (sym (q.word h) ∙ e); place = h }
+
+pub spotted-absent : {s : List ℕ} {n a i x : ℕ} → Spotted s n a i x → (i < n → x ≡ a → ⊥) → Looked s n a (Err i)
+spotted-absent {s} {n} {a} {i} q h = record { is = λ v. found-not s v n a i q.is (λ l e. h l (q.word l ∙ e)); place = q.within }
 
 pub read_at_lem : (c : Cells) (a i : ℕ) → at i ≡ find c a → get_or c.values i 0 ≡ held c a
 unfolding held
@@ -140,57 +142,62 @@ guess_by s n a i r o h l m = record { is = λ e. omega (arith, low (ltb 0 i) ref
     high q true e = place_upto s n a i (m.is q (ltb-true i n e))
     high q false e = omega (arith, ltb-false i n e, place_in s n a)
 
-pub guess_spot : (s : List ℕ) (n a i : ℕ) → Guessed s n a i true → Spotted s n a i (get_or s i 0)
-guess_spot s n a i q = record { is = q.is refl; within = q.within refl; word = λ _. refl }
+-- a guess that is right
 
--- ---- moving up, the last first
+pub guess-found : {s : List ℕ} {n a i : ℕ} → Guessed s n a i true → i < n → get_or s i 0 ≡ a → Looked s n a (Ok i)
+guess-found {s} {n} {a} {i} q h e = record { is = λ v. found_here s v n a i (q.is refl) h e; place = h }
 
-pub moved_none : (s : List ℕ) (n : ℕ) → s ≡ moved_up s n (n - n)
+pub guess-absent : {s : List ℕ} {n a i : ℕ} → Guessed s n a i true → (i < n → get_or s i 0 ≡ a → ⊥) → Looked s n a (Err i)
+guess-absent {s} {n} {a} {i} q h = record { is = λ v. found-not s v n a i (q.is refl) h; place = q.within refl }
+
+-- ---- moving up by one: a copy one place on
+
+moved_pasted : (s : List ℕ) (i n : ℕ) → i + n < length s → moved_up s i n ≡ paste s (i + 1) (drop i s) n
 unfolding moved_up
-moved_none s n = let e : n - n ≡ 0 = omega arith in rw e
+moved_pasted s i zero h = paste-zero s (i + 1) (drop i s)
+moved_pasted s i (suc n) h =
+    let x : suc i ≡ i + 1 = omega arith in
+    let y : suc i + 1 ≡ suc (i + 1) = omega arith in
+    let z : i + 1 + suc n ≡ suc (i + 1) + n = omega arith in
+    let t = take-suc s (i + 1) 0 (omega arith) in
+    let l : length (take (i + 1) s) ≡ i + 1 = length-take-le (i + 1) s (omega arith) in
+    rw (moved_pasted s (suc i) n (omega arith), y, t, x, z, drop-cons s i 0 (omega arith), x)
+    (simp append_assoc (set_at (take (i + 1) s) _ _ _ (i + 1) l))
 
-pub moved_one : (s t : List ℕ) (n k : ℕ) → 0 < k → k ≤ n → t ≡ moved_up s k (n - k) → set t k (get_or t (k - 1) 0) ≡ moved_up s (k - 1) (n - (k - 1))
-unfolding moved_up
-moved_one s t n k l h e =
-    let m : n - (k - 1) ≡ suc (n - k) = omega arith in
-    let w : suc (k - 1) ≡ k = omega arith in
-    rw (e, m, w, moved_before s k (n - k) (k - 1) (omega arith))
-
-pub moved_all : (s t : List ℕ) (n k : ℕ) → k ≤ 0 → t ≡ moved_up s k (n - k) → t ≡ moved_up s 0 n
-moved_all s t n k h e =
-    let z : k ≡ 0 = omega arith in
-    let w : n - 0 ≡ n = omega arith in
-    rw w at (rw z at e)
+pub inserted_pasted : (s : List ℕ) (n i x : ℕ) → i ≤ n → n < length s → set (copy_within s i n (i + 1)) i x ≡ inserted s n i x
+unfolding inserted
+inserted_pasted s n i x h l = ap (λ (r : List ℕ). set r i x) (sym (moved_pasted s i (n - i) (omega arith)))
 
 -- ---- neighbours
 
-pub falls_none : (s : List ℕ) → falls_of s 0 ≡ 0
-unfolding falls_of
-falls_none s = refl
+falls_either : (s : List ℕ) (n : ℕ) → (falls_of s n ≡ 0) ⊎ (falls_of s n ≡ 5)
+unfolding falls_of fall_of first_of
+falls_either s zero = inl refl
+falls_either s (suc n) = go (eqb (falls_of s n) 0) (ltb (get_or s n 0) (get_or s (suc n) 0)) (falls_either s n)
+  where
+    go : (t u : Bool) → (falls_of s n ≡ 0) ⊎ (falls_of s n ≡ 5) → (cond t (cond u 0 5) (falls_of s n) ≡ 0) ⊎ (cond t (cond u 0 5) (falls_of s n) ≡ 5)
+    go true true h = inl refl
+    go true false h = inr refl
+    go false u h = h
 
--- the pair before place i
-falls_step : (s : List ℕ) (i : ℕ) → 1 ≤ i → falls_of s i ≡ first_of (falls_of s (i - 1)) (fall_of (get_or s (i - 1) 0) (get_or s i 0))
-unfolding falls_of
-falls_step s i h = let e : i ≡ suc (i - 1) = omega arith in ap (falls_of s) e ∙ rw (← e)
+module _ (s xs : List ℕ) (n : ℕ) (h : n ≤ length s) (e : xs ≡ take n s) where
+  many : length xs ≡ n
+  many = ap length e ∙ length-take-le n s h
 
-pub falls_more : (s : List ℕ) (i : ℕ) → 1 ≤ i → falls_of s (i - 1) ≡ 0 → get_or s (i - 1) 0 < get_or s i 0 → falls_of s (i + 1 - 1) ≡ 0
-falls_more s i h e l =
-    let m : i + 1 - 1 ≡ i = omega arith in
-    rw m (falls_step s i h ∙ first_zero _ _ e ∙ fall_not (get_or s (i - 1) 0) (get_or s i 0) l)
+  used : (k : ℕ) → k < n → get_or xs k 0 ≡ get_or s k 0
+  used k l = ap (λ (r : List ℕ). get_or r k 0) e ∙ get_or-take n s k 0 l
 
--- a pair that falls decides, whatever comes behind
-falls_stays : (s : List ℕ) (i n : ℕ) → falls_of s i ≡ 5 → falls_of s (i + n) ≡ 5
-unfolding falls_of
-falls_stays s i zero e = rw (add-zero i) e
-falls_stays s i (suc n) e =
-    let ih = falls_stays s i n e in
-    rw (add-suc i n) (first-left (falls_of s (i + n)) _ (λ z. omega (arith, ih, z)) ∙ ih)
+  falls-some : (k : ℕ) → k + 1 < length xs → false ≡ ltb (get_or xs k 0) (get_or xs (k + 1) 0) → (falls_of s (n - 1) ≡ 0) ⊎ (falls_of s (n - 1) ≡ 5) → 5 ≡ falls_of s (n - 1)
+  falls-some k l m (inl z) =
+      let x = falls_nil s (n - 1) z k (k + 1) (omega arith) (omega (arith, many)) in
+      let y = ltb-false (get_or xs k 0) (get_or xs (k + 1) 0) (sym m) in
+      absurd (omega (arith, used k (omega (arith, many)), used (k + 1) (omega (arith, many))))
+  falls-some k l m (inr z) = sym z
 
-pub falls_stop : (s : List ℕ) (i n : ℕ) → 1 ≤ i → i < n → falls_of s (i - 1) ≡ 0 → get_or s i 0 ≤ get_or s (i - 1) 0 → 5 ≡ falls_of s (n - 1)
-falls_stop s i n h l e f =
-    let m : n - 1 ≡ i + (n - 1 - i) = omega arith in
-    let d : falls_of s i ≡ 5 = falls_step s i h ∙ first_zero _ _ e ∙ fall_is (get_or s (i - 1) 0) (get_or s i 0) f in
-    sym (rw m (falls_stays s i (n - 1 - i) d))
-
-pub falls_end : (s : List ℕ) (i n : ℕ) → i - 1 ≤ n - 1 → n ≤ i → falls_of s (i - 1) ≡ 0 → 0 ≡ falls_of s (n - 1)
-falls_end s i n h l e = let m : n - 1 ≡ i - 1 = omega arith in sym (rw m e)
+  pub falls_by : (r : Bool) → IsAllAdjacentAnswer (λ x y b. b ≡ ltb x y) xs r → cond r 0 5 ≡ falls_of s (n - 1)
+  falls_by true m =
+      sym (falls_fine s (n - 1) (λ i l.
+      let z : i + 1 ≡ suc i = omega arith in
+      let y = ltb-true (get_or xs i 0) (get_or xs (i + 1) 0) (sym (m i 0 (omega (arith, many)))) in
+      omega (arith, used i (omega arith), rw z at (used (i + 1) (omega arith)), rw z at y)))
+  falls_by false m = falls-some m.0 m.1 (m.2 0) (falls_either s (n - 1))

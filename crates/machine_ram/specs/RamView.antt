@@ -1,7 +1,5 @@
 -- What RAM's code relies on and promises besides the definitions of Ram.
-use Rattle.std.specs.Prelude.{◌≡◌, ℕ, ◌+◌, ◌-◌, ◌<◌, ◌≤◌, Bool, true, List, length, slice_index}
-use Rattle.machine_ram.specs.declared.ram.Found.{Found as FoundAt}
-use Rattle.machine_ram.specs.declared.ram.Found.TheVariants.{At, Absent}
+use Rattle.std.specs.Prelude.{◌≡◌, ℕ, ◌+◌, ◌-◌, ◌<◌, ◌≤◌, Bool, true, List, length, slice_index, Result, Ok, Err}
 use Rattle.machine.specs.Ram.{Cells, cells, Found, at, absent, place_from, find, stored, falls_of}
 
 -- what a search relies on: the used addresses are there, and ascend
@@ -33,16 +31,16 @@ pub record Guessed (s : List ℕ) (n a i : ℕ) (r : Bool) : Type 0 where
   pub within : r ≡ true → i ≤ n
 
 -- the code's answer
-abbrev pub found_of : FoundAt → Found
-found_of (At i) = at i
-found_of (Absent i) = absent i
+abbrev pub found_of : Result ℕ ℕ → Found
+found_of (Ok i) = at i
+found_of (Err i) = absent i
 
 -- the place of a found cell is a used one, and that of a new cell is a used one or the first unused one
-abbrev pub PlacedIn : ℕ → FoundAt → Type 0
-PlacedIn n (At i) = i < n
-PlacedIn n (Absent i) = i ≤ n
+abbrev pub PlacedIn : ℕ → Result ℕ ℕ → Type 0
+PlacedIn n (Ok i) = i < n
+PlacedIn n (Err i) = i ≤ n
 
-pub record Looked (addresses : List ℕ) (n a : ℕ) (r : FoundAt) : Type 0 where
+pub record Looked (addresses : List ℕ) (n a : ℕ) (r : Result ℕ ℕ) : Type 0 where
   pub is : (v : List ℕ) → found_of r ≡ find (cells n addresses v) a
   pub place : PlacedIn n r
 

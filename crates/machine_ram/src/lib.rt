@@ -1,5 +1,6 @@
 // RAM cells: search, reading, writing, ascending addresses.
 #![tactic(auto)]
 
-pub mod near;
+pub mod addresses;
 pub mod ram;
+pub mod ram_mut;

@@ -2,15 +2,20 @@
 ghost use Rattle.std.specs.Prelude.{◌≡◌, true, [] as Nil, ◌∷◌, ◌++◌, ◌+◌, ◌%◌, ◌^◌, ◌≤◌, eqb, ltb, length, get_or};
 ghost use Rattle.choices.specs.Choice.{cond};
 ghost use Rattle.machine.specs.Instruction.{size_of};
+ghost use Rattle.machine.specs.Machine.{machine};
+ghost use Rattle.machine.specs.Lent.{code_of, seen};
 ghost use Rattle.machine.specs.HelperVariables.{next_opcode};
-ghost use Rattle.machine.specs.ProcessorRow.{instruction_bits, stack_words};
-ghost use Rattle.machine_rows.specs.RowView.{shown, Rowable, RowIs, RowTaken, RowPut};
+ghost use Rattle.machine.specs.ProcessorRow.{instruction_bits, jump_words, stack_words, row_of};
+ghost use Rattle.machine_effects.specs.EffectView.{jump_top_of};
+ghost use Rattle.machine_rows.specs.RowView.{Rowable, RowTaken, RowPut};
 
-use machine_decide::decide::last;
-use machine_helpers::helper_variables::{helpers_of, next_opcode};
+use machine::lent::{LentCode, SeenMemory};
+use machine::state::VMState;
+use machine_decide::handed::last_entry;
+use machine_effects::effect::JumpEntry;
+use machine_helpers::helper_variables::{helpers, next_opcode};
 use machine_isa::instruction::size;
-use machine_isa::op_stack::top;
-use tip5::words::copy;
+use machine_isa::op_stack::Top;
 
 // Outside the program the opcode of nop.
 fn current_instruction(opcodes: &[u64], pointer: u64) -> u64
@@ -37,6 +42,7 @@ fn next_instruction_or_argument(opcodes: &[u64], arguments: &[u64], pointer: u64
 
 // The columns side by side, each written at its place: a row that is made as an array first is copied once more. o is CI, n is NIA, w the top
 // sixteen words, bottom first.
+#[tactic(auto, using(crate::proofs::RowLaws::columns_written))]
 fn write_columns(
     row: &mut [u64],
     clock: u64,
@@ -46,12 +52,12 @@ fn write_columns(
     jumps: u64,
     origin: u64,
     destination: u64,
-    w: [u64; 16],
+    w: &[u64; 16],
     depth: u64,
-    h: [u64; 6],
+    h: &[u64; 6],
 )
     requires { length row.old ≡ 37 }
-    ensures { row.new ≡ (clock ∷ pointer % 2 ^ 32 ∷ o ∷ n ∷ Nil) ++ instruction_bits o ++ (jumps ∷ origin ∷ destination ∷ Nil) ++ stack_words w ++ (depth ∷ h) }
+    ensures { row.new ≡ (clock ∷ pointer % 2 ^ 32 ∷ o ∷ n ∷ Nil) ++ instruction_bits o ++ (jumps ∷ origin ∷ destination ∷ Nil) ++ stack_words w.now ++ (depth ∷ h.now) }
 {
     row[0] = clock;
     row[1] = pointer % 4294967296;
@@ -92,43 +98,39 @@ fn write_columns(
     row[36] = h[5];
 }
 
-// Of the machine, its registers are handed in that a row shows, and not all: copies of them cost time.
-pub fn write_row(
-    row: &mut [u64],
-    clock: u64,
-    pointer: u64,
-    depth: usize,
-    jumps: usize,
-    taken: usize,
-    count: usize,
-    opcodes: &[u64],
-    arguments: &[u64],
-    digests: &[u64],
-    op_stack: &[u64],
-    origins: &[u64],
-    destinations: &[u64],
-    addresses: &[u64],
-    values: &[u64],
-)
-    requires { (length row.old ≡ 37) × Rowable (shown clock pointer depth jumps taken count) opcodes.now arguments.now digests.now op_stack.now origins.now destinations.now addresses.now values.now }
-    ensures { RowIs (shown clock pointer depth jumps taken count) opcodes.now arguments.now digests.now op_stack.now origins.now destinations.now addresses.now values.now row.new }
+// The jump stack's last entry, zeros where there is none.
+#[tactic(auto, unfolding(machine::specs::ProcessorRow::jump_words))]
+fn entry_or_zeros(top: Option<JumpEntry>) -> JumpEntry
+    ensures { result.origin ∷ result.destination ∷ Nil ≡ jump_words (jump_top_of top) }
 {
-    let w = top(op_stack, depth);
-    let h = helpers_of(
-        pointer, w, opcodes, arguments, digests, taken, addresses, values, count,
-    );
+    match top {
+        Some(entry) => entry,
+        None => JumpEntry {
+            origin: 0,
+            destination: 0,
+        },
+    }
+}
+
+pub fn write_row(row: &mut [u64], state: &VMState, code: &LentCode<'_>, memory: &SeenMemory<'_>)
+    requires { (length row.old ≡ 37) × Rowable (machine state.now (code_of code.now) (seen memory.now)) }
+    ensures { row.new ≡ row_of (machine state.now (code_of code.now) (seen memory.now)) }
+{
+    let top = Top::of(memory.op_stack, state.depth);
+    let h = helpers(state, code, memory);
+    let entry = entry_or_zeros(last_entry(memory, state.jumps));
     write_columns(
         row,
-        clock,
-        pointer,
-        current_instruction(opcodes, pointer),
-        next_instruction_or_argument(opcodes, arguments, pointer),
-        jumps as u64,
-        last(origins, jumps),
-        last(destinations, jumps),
-        w,
-        depth as u64,
-        h,
+        state.clock as u64,
+        state.pointer,
+        current_instruction(code.opcodes, state.pointer),
+        next_instruction_or_argument(code.opcodes, code.arguments, state.pointer),
+        state.jumps as u64,
+        entry.origin,
+        entry.destination,
+        &top.words,
+        state.depth as u64,
+        &h,
     );
 }
 
@@ -136,86 +138,35 @@ pub fn write_row(
 pub fn take_row(
     asked: bool,
     row: &mut [u64],
-    clock: u64,
-    pointer: u64,
-    depth: usize,
-    jumps: usize,
-    taken: usize,
-    count: usize,
-    opcodes: &[u64],
-    arguments: &[u64],
-    digests: &[u64],
-    op_stack: &[u64],
-    origins: &[u64],
-    destinations: &[u64],
-    addresses: &[u64],
-    values: &[u64],
+    state: &VMState,
+    code: &LentCode<'_>,
+    memory: &SeenMemory<'_>,
 )
-    requires { (length row.old ≡ 37) × Rowable (shown clock pointer depth jumps taken count) opcodes.now arguments.now digests.now op_stack.now origins.now destinations.now addresses.now values.now }
-    ensures { RowTaken asked (shown clock pointer depth jumps taken count) opcodes.now arguments.now digests.now op_stack.now origins.now destinations.now addresses.now values.now row.new }
+    requires { (length row.old ≡ 37) × Rowable (machine state.now (code_of code.now) (seen memory.now)) }
+    ensures { RowTaken asked (machine state.now (code_of code.now) (seen memory.now)) row.new }
 {
     if asked {
-        write_row(
-            row,
-            clock,
-            pointer,
-            depth,
-            jumps,
-            taken,
-            count,
-            opcodes,
-            arguments,
-            digests,
-            op_stack,
-            origins,
-            destinations,
-            addresses,
-            values,
-        );
+        write_row(row, state, code, memory);
     }
 }
 
-// The row goes into the table at a place, and becomes that of the machine behind its step. Gives the place behind it.
+// The row goes into the table at a place, where rows are asked for, and becomes that of the machine behind its step. Gives the place behind it.
 pub fn next_row(
+    asked: bool,
     table: &mut [u64],
     at: usize,
     row: &mut [u64],
-    clock: u64,
-    pointer: u64,
-    depth: usize,
-    jumps: usize,
-    taken: usize,
-    count: usize,
-    opcodes: &[u64],
-    arguments: &[u64],
-    digests: &[u64],
-    op_stack: &[u64],
-    origins: &[u64],
-    destinations: &[u64],
-    addresses: &[u64],
-    values: &[u64],
+    state: &VMState,
+    code: &LentCode<'_>,
+    memory: &SeenMemory<'_>,
 ) -> usize
-    requires { (at + 37 ≤ length table.old) × (length row.old ≡ 37) × Rowable (shown clock pointer depth jumps taken count) opcodes.now arguments.now digests.now op_stack.now origins.now destinations.now addresses.now values.now }
-    ensures { RowPut true table.old at row.old table.new result × RowTaken true (shown clock pointer depth jumps taken count) opcodes.now arguments.now digests.now op_stack.now origins.now destinations.now addresses.now values.now row.new }
+    requires { (asked ≡ true → at + 37 ≤ length table.old) × (length row.old ≡ 37) × Rowable (machine state.now (code_of code.now) (seen memory.now)) }
+    ensures { RowPut asked table.old at row.old table.new result × RowTaken asked (machine state.now (code_of code.now) (seen memory.now)) row.new }
 {
-    copy(table, at, row, 37);
-    take_row(
-        true,
-        row,
-        clock,
-        pointer,
-        depth,
-        jumps,
-        taken,
-        count,
-        opcodes,
-        arguments,
-        digests,
-        op_stack,
-        origins,
-        destinations,
-        addresses,
-        values,
-    );
+    if !asked {
+        return at;
+    }
+    table[at..at + 37].copy_from_slice(row);
+    write_row(row, state, code, memory);
     at + 37
 }

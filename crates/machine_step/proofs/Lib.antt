@@ -1,4 +1,3 @@
 -- The laws that the proofs cite.
-pub mod Accesses
 pub mod AdvanceLaws
 pub mod RecordsLaws

@@ -1,25 +1,28 @@
 -- What the code of a step's records relies on and promises.
-use Rattle.std.specs.Prelude.{ℕ, ◌+◌, ◌≤◌, ◌≡◌, Bool, true, false, List, [], ◌++◌, length, drop}
-use Rattle.machine_effects.specs.declared.effect.Effect.{Effect as Arrays}
-use Rattle.machine_hashing.specs.declared.hashing.Hashed.{Hashed}
+use Rattle.std.specs.Prelude.{ℕ, ◌+◌, ◌≤◌, ◌≡◌, Bool, true, false, List, [], ◌++◌, length, drop, Result, Ok, Err}
+use Rattle.machine.specs.declared.refusal.InstructionError.{InstructionError}
+use Rattle.machine_effects.specs.declared.effect.Effect.{Effect}
+use Rattle.machine_hashing.specs.declared.hashing.Recorded.{Recorded as CodeRecorded}
+use Rattle.machine_log.specs.declared.calls.Besides.{Besides}
 use Rattle.choices.specs.Choice.{cond}
+use Rattle.machine.specs.Effect.{Call}
 use Rattle.machine.specs.Records.{Record, log_bytes}
-use Rattle.machine_log.specs.Logged.{logged, tip5_bytes, stack_bytes, Deep, LogRoom}
-use Rattle.machine_perform.specs.declared.answer.Answer.{Answer}
-use Rattle.machine_perform.specs.declared.answer.Answer.TheVariants.{Took, Refused}
+use Rattle.machine_hashing.specs.HashedView.{recorded_with}
+use Rattle.machine_log.specs.Logged.{logged, stack_bytes, Deep}
+use Rattle.machine_log.specs.Beside.{with_besides, LogRoom}
 
 -- records are asked for, and the step was taken
-abbrev pub asked_of : Bool → Answer → Bool
-asked_of t Took = t
-asked_of t (Refused e) = false
+abbrev pub asked_of : Bool → Result (Unit {0}) InstructionError → Bool
+asked_of t (Ok _) = t
+asked_of t (Err e) = false
+
+-- the same is recorded besides an effect's calls
+pub record Tells (r : CodeRecorded) (x : Besides) : Type 0 where
+  pub is : (cs : List Call) → with_besides x cs ≡ recorded_with r cs
 
 -- there is room where they are asked for
-pub record Roomy (t : Bool) (v more : ℕ) (e : Arrays) (s b : List ℕ) (d d2 : ℕ) : Type 0 where
-  pub room : t ≡ true → LogRoom v more e s b d d2
-
--- a reset takes 4 bytes, a trace 774, or 778 in revision 2
-abbrev pub RoomyHashed : Bool → ℕ → Hashed → List ℕ → List ℕ → ℕ → ℕ → Type 0
-RoomyHashed t v h s b d d2 = Roomy t v (cond h.traces (tip5_bytes v) 4) h.decided.effect s b d d2
+pub record Roomy (t : Bool) (v : ℕ) (x : Besides) (e : Effect) (s b : List ℕ) (d d2 : ℕ) : Type 0 where
+  pub room : t ≡ true → LogRoom v x e s b d d2
 
 -- b2 is b with the records' bytes at its start, or b
 pub record Recorded (t : Bool) (v : ℕ) (b b2 : List ℕ) (rs : List Record) (n : ℕ) : Type 0 where

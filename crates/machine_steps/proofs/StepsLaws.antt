@@ -4,24 +4,29 @@ use mathlib.Core.Bool.{Bool, true, false, true≢false}
 use mathlib.Core.List.{List, [], ◌∷◌, ◌++◌, append_assoc, append-nil}
 use Prim.Native.Nat.{ℕ, suc, zero-le, ◌+◌, ◌-◌, ◌*◌, ◌≤◌, ◌<◌}
 use native.Mathlib.Omega.{arith}
-use borrow.Author.Tests.{ltb-false}
+use borrow.Author.Tests.{ltb-false, le-ltb}
 use lib.ListN.{length, take, drop, length-append, length-drop}
 use lib.Dec.{eqb, ltb}
+use Rattle.std.specs.Prelude.{Result, Ok, Err, IsErrAnd, Option, Some, None}
 use Rattle.machine.specs.declared.refusal.InstructionError.{InstructionError}
 use Rattle.machine.specs.declared.state.VMState.{VMState}
+use Rattle.machine.specs.declared.lent.LentMemory.{LentMemory}
+use Rattle.machine.specs.Lent.{Keeps}
 use Rattle.choices.specs.Choice.{cond}
 use Rattle.machine.specs.Refusal.{Refusal, refusal_of}
 use Rattle.machine.specs.Machine.{Code, Memory, memory, Machine, machine}
 use Rattle.machine.specs.Decide.{opcode_of, decide_of}
-use Rattle.machine.specs.Apply.{Outcome, took, kept, lost, settled}
+use Rattle.machine.specs.Apply.{Outcome, took, kept, lost, settled, performed}
 use Rattle.machine.specs.Records.{log_bytes, stack_records}
 use Rattle.machine.specs.Step.{records_in, stepped_by, outcome_by}
-use Rattle.machine.specs.Lengths.{clock_bytes, most_bytes}
+use Rattle.machine.specs.Lengths.{longest, clock_bytes, most_bytes}
 use Rattle.machine.specs.ProcessorRow.{row_of, rows_from}
 use Rattle.machine.specs.Fee.{fee_from}
 use Rattle.machine.specs.Path.{the_log, the_table, Ending, halted, spent, full, refused, Path, path, count, stays, onward, Left, lacks, Space, too_little, full_of, behind, step_log, path_by, log_from}
 use Rattle.machine.specs.Sound.{Sound}
 use Rattle.machine.proofs.Facts.{facts}
+use Rattle.machine.proofs.OpStack.{applied_length}
+use Rattle.machine.proofs.Preserved.{limits_fit}
 use Rattle.machine.proofs.Fee.{Priced, took-priced, step_clock}
 use Rattle.machine.proofs.FeeTable.{known_low}
 use Rattle.machine.proofs.Records.{log-append}
@@ -31,19 +36,18 @@ use Rattle.machine.proofs.Path.{path-halted, path-full, path_on}
 use Rattle.machine.proofs.ProcessorRow.{row-length}
 use Rattle.machine_log.specs.Logged.{logged}
 use Rattle.machine_log.proofs.Logged.{logged_none, logged-front, logged-logged, logged_back}
-use Rattle.machine_perform.specs.declared.answer.Answer.TheVariants.{Took, Refused}
 use Rattle.machine_perform.specs.declared.answer.Stepped.{Stepped}
 use Rattle.machine_perform.specs.AnswerView.{did, turned, answer_in, Gives}
 use Rattle.machine_quick.specs.declared.quick.QuickStep.{QuickStep}
 use Rattle.machine_quick.specs.QuickView.{onward_to, StepsTo}
-use Rattle.machine_rows.specs.RowView.{Shown, RowTaken, RowPut}
+use Rattle.machine_rows.specs.RowView.{RowTaken, RowPut}
 use Rattle.machine_step.specs.AdvanceView.{advanced_by, Advanced}
 use Rattle.machine_step.specs.RecordsView.{RoomyAt, RecordedAt}
 use Rattle.machine_steps.specs.declared.answer.Ending.{Ending as EndingIn}
 use Rattle.machine_steps.specs.declared.answer.Ending.TheVariants as E
 use Rattle.machine_steps.specs.declared.answer.Ran.{Ran}
 use Rattle.machine_steps.specs.RanView.{ending_in, end_of, RanOn}
-use Rattle.machine_steps.specs.StepsView.{price_by, PricedAt, Pricing, left_of, space_of, short_of, end_full, own_log, log_of, own_row, rows_of, StandingAt, log_in, AdvancedAt}
+use Rattle.machine_steps.specs.StepsView.{PricedAt, Pricing, left_of, space_of, short_of, end_full, own_log, log_of, own_row, rows_of, StandingAt, log_in, answer_of, SteppedAt}
 
 -- ---- the log
 
@@ -100,7 +104,13 @@ advanced-log t m b = go (cond t (log_bytes m.state.revision (records_in m (decid
     go own (kept r) = (refl, logged_none b 0)
     go own (lost r x) = (refl, logged_none b 0)
 
-pub advanced-at : {t : Bool} {m : Machine} {b ys : List ℕ} {at : ℕ} {r : Stepped} {n : Memory} → at ≤ length b → Advanced t m (take (length b - at) (drop at b)) r n ys →
+-- the same behind place `at` of the log b, which becomes b2
+record AdvancedAt (t : Bool) (m : Machine) (b : List ℕ) (at : ℕ) (r : Stepped) (n : Memory) (b2 : List ℕ) : Type 0 where
+  gives : Gives m (outcome_by decide_of m) r.answer (machine r.state m.code n)
+  bytes : r.bytes ≡ length (log_in (own_log t m) (outcome_by decide_of m))
+  buffer : b2 ≡ logged b at (log_in (own_log t m) (outcome_by decide_of m))
+
+advanced-at : {t : Bool} {m : Machine} {b ys : List ℕ} {at : ℕ} {r : Stepped} {n : Memory} → at ≤ length b → Advanced t m (take (length b - at) (drop at b)) r n ys →
     AdvancedAt t m b at r n (take at b ++ (ys ++ drop (length b - at) (drop at b)))
 advanced-at {t} {m} {b} {ys} {at} {r} {n} h a =
     let k = advanced-log t m (take (length b - at) (drop at b)) in
@@ -109,6 +119,104 @@ advanced-at {t} {m} {b} {ys} {at} {r} {n} h a =
       bytes = a.bytes ∙ k.0;
       buffer = logged_back b ys (log_in (own_log t m) (outcome_by decide_of m)) at h (a.buffer ∙ k.1);
     }
+
+took-log : (m x : Machine) → Sound m → outcome_by decide_of m ≡ took x → length (step_log decide_of m) ≤ most_bytes m.state.revision
+unfolding step_log
+took-log m x s h = of (step-took decide_of m x h)
+  where
+    of : TookBy m (decide_of m) x → length (log_bytes m.state.revision (records_in m (decide_of m))) ≤ most_bytes m.state.revision
+    of k = rw k.acting (step-few m s k.effect k.acting)
+
+-- a step's stack records, as what it writes
+moved-log : (t : Bool) (m : Machine) (r : QuickStep) (n : Memory) → StepsTo m r n → cond t (log_bytes m.state.revision (stack_records m.state.clock n.op_stack n.op_stack m.state.depth r.depth)) [] ≡ own_log t m
+unfolding step_log
+moved-log t m r n s = rw s.records
+
+-- a step that is taken keeps the op stack's length
+took-stack : (m x : Machine) → Sound m → outcome_by decide_of m ≡ took x → length x.memory.op_stack ≡ length m.memory.op_stack
+unfolding performed
+took-stack m x s h = of (step-took decide_of m x h)
+  where
+    of : TookBy m (decide_of m) x → length x.memory.op_stack ≡ length m.memory.op_stack
+    of k =
+        let f = facts m s k.effect k.acting in
+        let l = limits_fit m k.effect k.limits in
+        ap (λ (y : Machine). length y.memory.op_stack) (sym k.is)
+        ∙ applied_length m.memory.op_stack k.effect.words m.state.depth k.effect.pops (omega (arith, f.pops, s.deep)) s.op_stack.used l.depth
+
+-- ---- one step behind place `at` of the log
+
+-- what is written where it is asked for fits, as the most does
+own-there : (t : Bool) (own : List ℕ) (at most room : ℕ) → length own ≤ most → at ≤ room → (t ≡ true → at + most ≤ room) → at + length (cond t own []) ≤ room
+own-there true own at most room l h k = let z = k refl in omega arith
+own-there false own at most room l h k = omega arith
+
+module _ {t : Bool} {m : Machine} {b : List ℕ} {at : ℕ} (h : StandingAt t m b at) where
+  own-within : (x : Machine) → outcome_by decide_of m ≡ took x → at + length (own_log t m) ≤ length b
+  own-within x e = own-there t (step_log decide_of m) at (most_bytes m.state.revision) (length b) (took-log m x h.sound e) h.within h.room
+
+  -- a quick one
+  module _ {r : QuickStep} {n : Memory} (y : StepsTo m r n) where
+    quick-sound : Sound (machine (onward_to m.state r) m.code n)
+    quick-sound = step-sound decide_of facts m _ h.sound y.outcome
+
+    pub quick_room : RoomyAt t n.op_stack b at m.state.depth r.depth
+    unfolding step_log
+    quick_room =
+        let len = took-stack m _ h.sound y.outcome in
+        let small = rw y.records at (took-log m _ h.sound y.outcome) in
+        let size = stack_records_length m.state.revision m.state.clock n.op_stack n.op_stack m.state.depth r.depth in
+        record {
+          deep = λ _. record { low = h.sound.deep; low2 = quick-sound.deep; high = omega (arith, len, h.sound.op_stack.used); high2 = quick-sound.op_stack.used };
+          room = λ z. omega (arith, size, small, h.room z);
+        }
+
+    pub quick_clock : m.state.clock + 1 < 4294967296
+    quick_clock = quick-sound.clock
+
+    pub quick_stepped : {next : ℕ} {b2 : List ℕ} → RecordedAt t b b2 at (stack_records m.state.clock n.op_stack n.op_stack m.state.depth r.depth) next →
+        SteppedAt t m b at (Ok next) (onward_to m.state r) n b2
+    quick_stepped z =
+        let l = moved-log t m r n y in
+        record {
+          gives = rw y.outcome (record { answer = refl; left = refl });
+          place = z.place m.state.revision ∙ ap (λ (i : List ℕ). at + length i) l;
+          buffer = z.buffer m.state.revision ∙ rw y.outcome (ap (logged b at) l);
+        }
+
+  -- any other
+  module _ {r : Stepped} {n : Memory} {ys : List ℕ} (a : Advanced t m (take (length b - at) (drop at b)) r n ys) where
+    -- the log behind it
+    abbrev after : List ℕ
+    after = take at b ++ (ys ++ drop (length b - at) (drop at b))
+
+    advanced : AdvancedAt t m b at r n after
+    advanced = advanced-at h.within a
+
+    -- one that is taken
+    went : r.answer ≡ Ok tt → (outcome_by decide_of m ≡ took (machine r.state m.code n)) × (r.bytes ≡ length (own_log t m)) × (after ≡ logged b at (own_log t m))
+    went k = go (outcome_by decide_of m) refl
+      where
+        go : (o : Outcome) → outcome_by decide_of m ≡ o → (outcome_by decide_of m ≡ took (machine r.state m.code n)) × (r.bytes ≡ length (own_log t m)) × (after ≡ logged b at (own_log t m))
+        go (took z) e = let l : machine r.state m.code n ≡ z = rw e at advanced.gives.left in (e ∙ ap took (sym l), rw e at advanced.bytes, rw e at advanced.buffer)
+        go (kept z) e = let c = sym (ap answer_in k) ∙ (rw e at advanced.gives.answer) in let v : ◌≡◌ {A = ℕ} 0 1 = cc in absurd (omega arith)
+        go (lost z x) e = let c = sym (ap answer_in k) ∙ (rw e at advanced.gives.answer) in let v : ◌≡◌ {A = ℕ} 0 1 = cc in absurd (omega arith)
+
+    pub advanced_fits : r.answer ≡ Ok tt → at + r.bytes ≤ length b
+    advanced_fits k = let w = went k in omega (arith, w.1, own-within _ w.0)
+
+    pub advanced_stepped : r.answer ≡ Ok tt → SteppedAt t m b at (Ok (at + r.bytes)) r.state n after
+    advanced_stepped k =
+        let w = went k in
+        record {
+          gives = rw k at advanced.gives;
+          place = ap (λ (i : ℕ). at + i) w.1;
+          buffer = advanced.buffer;
+        }
+
+    pub advanced-refused : {e : InstructionError} (x : Result ℕ InstructionError) → r.answer ≡ Err e → IsErrAnd x (λ y. y ≡ e) → SteppedAt t m b at x r.state n after
+    advanced-refused (Ok next) k h = absurd h
+    advanced-refused (Err y) k h = rw h (record { gives = rw k at advanced.gives; place = _; buffer = advanced.buffer })
 
 -- ---- what the steps write, one behind the other
 
@@ -221,26 +329,23 @@ steps_start t u price budget b w m s narrow =
     let i : length w - 0 ≡ length w = omega arith in
     record { few = omega arith; sound = s; done = []; counted = refl; log = written_none (log_of t) b m; table = written_none (rows_of u) w m; paid = paid-none m narrow; is = rw (e, h, i) }
 
-took-log : (m x : Machine) → Sound m → outcome_by decide_of m ≡ took x → length (step_log decide_of m) ≤ most_bytes m.state.revision
-unfolding step_log
-took-log m x s h = of (step-took decide_of m x h)
-  where
-    of : TookBy m (decide_of m) x → length (log_bytes m.state.revision (records_in m (decide_of m))) ≤ most_bytes m.state.revision
-    of k = rw k.acting (step-few m s k.effect k.acting)
-
 -- where not less is left than what is asked for needs, it fits
 own-fits : (t : Bool) (own : List ℕ) (room most : ℕ) → length own ≤ most → lacks (left_of t room) most ≡ false → length (cond t own []) ≤ room
 own-fits true own room most h l = let k = ltb-false room most l in omega arith
 own-fits false own room most h l = zero-le
 
 -- in either revision
-pub most_few : (v : ℕ) → most_bytes v ≤ 1028
+most_few : (v : ℕ) → most_bytes v ≤ 1028
 unfolding most_bytes clock_bytes
 most_few v = go (eqb v 2)
   where
     go : (t : Bool) → 1024 + cond t 4 0 ≤ 1028
     go true = omega arith
     go false = omega arith
+
+pub lacks_none : (t : Bool) (left v : ℕ) → 1028 ≤ left → false ≡ lacks (left_of t left) (most_bytes v)
+lacks_none true left v h = sym (le-ltb left (most_bytes v) (omega (arith, most_few v)))
+lacks_none false left v h = refl
 
 -- neither log nor table is short
 not_short : (x y : Bool) → cond x true y ≡ false → (x ≡ false) × (y ≡ false)
@@ -253,11 +358,6 @@ end_full_lem t v s room most e q = go (lacks (left_of t room) most) ∙ ap (λ (
     go : (x : Bool) → ending_in (cond x E.Full E.TableFull) ≡ full (cond x the_log the_table)
     go true = refl
     go false = refl
-
--- a step's stack records, as what it writes
-moved-log : (t : Bool) (m : Machine) (r : QuickStep) (w2 : List ℕ) → StepsTo m r w2 → cond t (log_bytes m.state.revision (stack_records m.state.clock w2 w2 m.state.depth r.depth)) [] ≡ own_log t m
-unfolding step_log
-moved-log t m r w2 s = rw s.records
 
 -- a row that was taken, as what it writes
 row-own : (u : Bool) (m : Machine) (row : List ℕ) → (u ≡ true → row ≡ row_of m) → cond u row [] ≡ own_row u m
@@ -349,8 +449,8 @@ module _ {t u : Bool} {price : ℕ → ℕ} {budget : ℕ} {b0 w0 : List ℕ} {m
         let v = ltb-false (length w - filled) 37 z in
         omega (arith, v, rows_within)
 
-    pub steps_stand : StandingAt t m b at
-    steps_stand = record { sound = s.sound; within = steps_within; room = room_in }
+    pub steps_stand : length b ≤ longest → StandingAt t m b at
+    steps_stand few = record { sound = s.sound; on = on; within = steps_within; few = few; room = room_in }
 
     pay_fits : {x : Machine} → outcome_by decide_of m ≡ took x → fee + price (opcode_of m) < 18446744073709551616
     pay_fits {x} e =
@@ -384,114 +484,65 @@ module _ {t u : Bool} {price : ℕ → ℕ} {budget : ℕ} {b0 w0 : List ℕ} {m
               ∙ next (took x) e;
         }
 
-    -- what the code of a step gives that is taken
-    went : {r : Stepped} {n : Memory} {b2 : List ℕ} → r.answer ≡ Took → AdvancedAt t m b at r n b2 →
-        (outcome_by decide_of m ≡ took (machine r.state m.code n)) × (r.bytes ≡ length (own_log t m)) × (b2 ≡ logged b at (own_log t m))
-    went {r} {n} {b2} a y = go (outcome_by decide_of m) refl
-      where
-        did-take : answer_in r.answer ≡ did
-        did-take = ap answer_in a
+    -- a step that is taken
+    module _ {next-at : ℕ} {x : VMState} {n : Memory} {b2 : List ℕ} (y : SteppedAt t m b at (Ok next-at) x n b2) where
+      went_on : (outcome_by decide_of m ≡ took (machine x m.code n)) × (b2 ≡ logged b at (own_log t m))
+      went_on = go (outcome_by decide_of m) refl
+        where
+          go : (o : Outcome) → outcome_by decide_of m ≡ o → (outcome_by decide_of m ≡ took (machine x m.code n)) × (b2 ≡ logged b at (own_log t m))
+          go (took z) e = let l : machine x m.code n ≡ z = rw e at y.gives.left in (e ∙ ap took (sym l), rw e at y.buffer)
+          go (kept z) e = let c = rw e at y.gives.answer in let v : ◌≡◌ {A = ℕ} 0 1 = cc in absurd (omega arith)
+          go (lost z w) e = let c = rw e at y.gives.answer in let v : ◌≡◌ {A = ℕ} 0 1 = cc in absurd (omega arith)
 
-        go : (o : Outcome) → outcome_by decide_of m ≡ o → (outcome_by decide_of m ≡ took (machine r.state m.code n)) × (r.bytes ≡ length (own_log t m)) × (b2 ≡ logged b at (own_log t m))
-        go (took z) e = let l : machine r.state m.code n ≡ z = rw e at y.gives.left in (e ∙ ap took (sym l), rw e at y.bytes, rw e at y.buffer)
-        go (kept z) e = let c = sym did-take ∙ (rw e at y.gives.answer) in let v : ◌≡◌ {A = ℕ} 0 1 = cc in absurd (omega arith)
-        go (lost z x) e = let c = sym did-take ∙ (rw e at y.gives.answer) in let v : ◌≡◌ {A = ℕ} 0 1 = cc in absurd (omega arith)
+      pub steps-sound : Sound (machine x m.code n)
+      steps-sound = step-sound decide_of facts m _ s.sound went_on.0
 
-    module _ {r : Stepped} {n : Memory} {b2 : List ℕ} (a : r.answer ≡ Took) (y : AdvancedAt t m b at r n b2) where
-      pub steps-fit : at + r.bytes ≤ length b
-      steps-fit =
-          let w = went a y in
-          let small = own-fits t (step_log decide_of m) (length b - at) most (took-log m _ s.sound w.0) enough.0 in
-          omega (arith, w.1, small, steps_within)
-
-      pub steps-sound : Sound (machine r.state m.code n)
-      steps-sound = step-sound decide_of facts m _ s.sound (went a y).0
-
-      pub steps_go : {w2 row : List ℕ} {next_row next-fee : ℕ} → (u ≡ true → row ≡ row_of m) → RowPut u w filled row w2 next_row → next-fee ≡ fee + price (opcode_of m) →
-          Going t u price budget b0 w0 m0 (machine r.state m.code n) (k + 1) (at + r.bytes) next_row next-fee b2 w2
-      steps_go taken put pay = let v = went a y in steps_go_on v.0 (ap (λ (i : ℕ). at + i) v.1) v.2 taken put pay
+      pub steps_go : {w2 row : List ℕ} {next_row next-fee : ℕ} → RowTaken u m row → RowPut u w filled row w2 next_row → next-fee ≡ fee + price (opcode_of m) →
+          Going t u price budget b0 w0 m0 (machine x m.code n) (k + 1) next-at next_row next-fee b2 w2
+      steps_go taken put pay = steps_go_on went_on.0 y.place went_on.1 taken.asked put pay
 
       pub steps-priced : Priced m
-      steps-priced = took-priced m _ s.sound (went a y).0
+      steps-priced = took-priced m _ s.sound went_on.0
 
       -- the fee fits 64 bits, since the clock of the machine behind the step fits 32
       pub steps_pay : fee + price (opcode_of m) < 18446744073709551616
-      steps_pay = pay_fits (went a y).0
-
-    -- a quick step, and room for its records
-    module _ {r : QuickStep} {w2 : List ℕ} (y : StepsTo m r w2) where
-      pub quick_room : length w2 ≡ length m.memory.op_stack → RoomyAt t w2 b at m.state.depth r.depth
-      unfolding step_log
-      quick_room len =
-          let x = step-sound decide_of facts m _ s.sound y.outcome in
-          let small = rw y.records at (took-log m _ s.sound y.outcome) in
-          let size = stack_records_length m.state.revision m.state.clock w2 w2 m.state.depth r.depth in
-          record {
-            deep = λ _. record { low = s.sound.deep; low2 = x.deep; high = omega (arith, len, s.sound.op_stack.used); high2 = x.op_stack.used };
-            room = λ z. omega (arith, size, small, room_in z);
-          }
-
-      pub quick_sound : Sound (machine (onward_to m.state r) m.code (memory w2 m.memory.origins m.memory.destinations m.memory.addresses m.memory.values m.memory.output))
-      quick_sound = step-sound decide_of facts m _ s.sound y.outcome
-
-      pub quick_priced : Priced m
-      quick_priced = took-priced m _ s.sound y.outcome
-
-      pub quick_pay : fee + price (opcode_of m) < 18446744073709551616
-      quick_pay = pay_fits y.outcome
-
-      pub steps_quick : {next-at next_row next-fee : ℕ} {b2 t2 row : List ℕ} → RecordedAt t b b2 at (stack_records m.state.clock w2 w2 m.state.depth r.depth) next-at → (u ≡ true → row ≡ row_of m) → RowPut u w filled row t2 next_row → next-fee ≡ fee + price (opcode_of m) →
-          Going t u price budget b0 w0 m0 (machine (onward_to m.state r) m.code (memory w2 m.memory.origins m.memory.destinations m.memory.addresses m.memory.values m.memory.output)) (k + 1) next-at next_row next-fee b2 t2
-      steps_quick z taken put pay =
-          let l = moved-log t m r w2 y in
-          steps_go_on y.outcome (z.place m.state.revision ∙ ap (λ (i : List ℕ). at + length i) l) (z.buffer m.state.revision ∙ ap (logged b at) l) taken put pay
+      steps_pay = pay_fits went_on.0
 
     -- a refused step ends it, with log and table as they were
-    pub steps-stop : {r : Stepped} {n : Memory} {b2 : List ℕ} {q : InstructionError} → r.answer ≡ Refused q → AdvancedAt t m b at r n b2 →
-        Ended t u price budget b0 w0 m0 m.code (record { count = k; ending = E.Refused q; state = r.state; bytes = at; fee = fee }) n b2 w
-    steps-stop {r} {n} {b2} {q} a y = go (outcome_by decide_of m) refl
+    pub steps-stop : {q : InstructionError} {x : VMState} {n : Memory} {b2 : List ℕ} → SteppedAt t m b at (Err q) x n b2 →
+        Ended t u price budget b0 w0 m0 m.code (record { count = k; ending = E.Refused q; state = x; bytes = at; fee = fee }) n b2 w
+    steps-stop {q} {x} {n} {b2} y = go (outcome_by decide_of m) refl
       where
-        did_turn : answer_in r.answer ≡ turned (refusal_of q)
-        did_turn = ap answer_in a
-
-        ending : (x : Machine) (d : Bool) (z : Refusal) → turned (refusal_of q) ≡ turned z → machine r.state m.code n ≡ x → b2 ≡ logged b at [] → ahead s.done (path [] x d (refused z)) ≡ whole t u budget b0 w0 m0 →
-            Ended t u price budget b0 w0 m0 m.code (record { count = k; ending = E.Refused q; state = r.state; bytes = at; fee = fee }) n b2 w
-        ending x d z c l p v =
+        ending : (v : Machine) (d : Bool) (z : Refusal) → turned (refusal_of q) ≡ turned z → machine x m.code n ≡ v → b2 ≡ logged b at [] → ahead s.done (path [] v d (refused z)) ≡ whole t u budget b0 w0 m0 →
+            Ended t u price budget b0 w0 m0 m.code (record { count = k; ending = E.Refused q; state = x; bytes = at; fee = fee }) n b2 w
+        ending v d z c l p i =
             let same : refusal_of q ≡ z = cc c in
-            ended (E.Refused q) r.state n b2 x d (ap (λ (i : Refusal). ahead s.done (path [] x d (refused i))) same ∙ v) l (p ∙ sym (logged_none b at))
+            ended (E.Refused q) x n b2 v d (ap (λ (g : Refusal). ahead s.done (path [] v d (refused g))) same ∙ i) l (p ∙ sym (logged_none b at))
 
-        go : (o : Outcome) → outcome_by decide_of m ≡ o → Ended t u price budget b0 w0 m0 m.code (record { count = k; ending = E.Refused q; state = r.state; bytes = at; fee = fee }) n b2 w
-        go (took z) e = let c = sym did_turn ∙ (rw e at y.gives.answer) in let v : ◌≡◌ {A = ℕ} 0 1 = cc in absurd (omega arith)
-        go (kept z) e = ending m false z (sym did_turn ∙ (rw e at y.gives.answer)) (rw e at y.gives.left) (rw e at y.buffer) (next (kept z) e)
-        go (lost z x) e = ending x true z (sym did_turn ∙ (rw e at y.gives.answer)) (rw e at y.gives.left) (rw e at y.buffer) (next (lost z x) e)
+        go : (o : Outcome) → outcome_by decide_of m ≡ o → Ended t u price budget b0 w0 m0 m.code (record { count = k; ending = E.Refused q; state = x; bytes = at; fee = fee }) n b2 w
+        go (took z) e = let c = rw e at y.gives.answer in let v : ◌≡◌ {A = ℕ} 0 1 = cc in absurd (omega arith)
+        go (kept z) e = ending m false z (rw e at y.gives.answer) (rw e at y.gives.left) (rw e at y.buffer) (next (kept z) e)
+        go (lost z v) e = ending v true z (rw e at y.gives.answer) (rw e at y.gives.left) (rw e at y.buffer) (next (lost z v) e)
 
--- the op stack as it was
-pub steps-kept : {t u : Bool} {price : ℕ → ℕ} {budget : ℕ} {b0 w0 : List ℕ} {m0 : Machine} {c : Code} {stack after from to a v o : List ℕ} {k at filled fee : ℕ} {b w : List ℕ} {s : VMState} → after ≡ stack →
-    Going t u price budget b0 w0 m0 (machine s c (memory stack from to a v o)) k at filled fee b w → Going t u price budget b0 w0 m0 (machine s c (memory after from to a v o)) k at filled fee b w
-steps-kept {t} {u} {price} {budget} {b0} {w0} {m0} {c} {stack} {after} {from} {to} {a} {v} {o} {k} {at} {filled} {fee} {b} {w} {s} e r = subst (λ (x : List ℕ). Going t u price budget b0 w0 m0 (machine s c (memory x from to a v o)) k at filled fee b w) (sym e) r
+-- ---- the memory lent
 
--- and a row that was taken before
-pub row_kept : {u : Bool} {n : Shown} {o a d stack after from to x v row : List ℕ} → after ≡ stack → RowTaken u n o a d stack from to x v row → RowTaken u n o a d after from to x v row
-row_kept {u} {n} {o} {a} {d} {stack} {after} {from} {to} {x} {v} {row} e h = subst (λ (y : List ℕ). RowTaken u n o a d y from to x v row) (sym e) h
+pub keeps_same : (a : LentMemory) → Keeps a a
+keeps_same a = record { op_stack = refl; origins = refl; destinations = refl; addresses = refl; values = refl; output = refl }
+
+pub keeps_on : {a b c : LentMemory} → Keeps a b → Keeps b c → Keeps a c
+keeps_on h k =
+    record {
+      op_stack = k.op_stack ∙ h.op_stack;
+      origins = k.origins ∙ h.origins;
+      destinations = k.destinations ∙ h.destinations;
+      addresses = k.addresses ∙ h.addresses;
+      values = k.values ∙ h.values;
+      output = k.output ∙ h.output;
+    }
 
 -- ---- prices
 
 -- a slot that a step starts at has a price
-pub price_there : {f x : Bool} {prices : List ℕ} {m : Machine} → (x ≡ true → f ≡ true) → Pricing f prices → Priced m → PricedAt x prices m.code.opcodes m.state.pointer
-price_there {m = m} y h p = let k = known_low (opcode_of m) p.known in record { there = λ e. (p.here, omega (arith, k, h.all (y e))) }
-
--- where neither rows nor prices are asked for
-pub beside_not : (u f : Bool) {x : Bool} → x ≡ cond u true f → x ≡ false → (u ≡ false) × (f ≡ false)
-beside_not true f e h = absurd (true≢false (sym e ∙ h))
-beside_not false f e h = (refl, sym e ∙ h)
-
--- where no rows are, but something is
-pub beside_priced : (u f : Bool) {x : Bool} → x ≡ cond u true f → x ≡ true → u ≡ false → f ≡ true
-beside_priced true f e h k = absurd (true≢false k)
-beside_priced false f e h k = sym e ∙ h
-
-pub pay_not : {f : Bool} (prices : List ℕ) (o fee : ℕ) → f ≡ false → fee ≡ fee + price_by f prices o
-pay_not prices o fee h = rw h (omega arith)
-
-pub pay_by : {f : Bool} (prices : List ℕ) (o fee : ℕ) {x : ℕ} → f ≡ true → x ≡ price_by true prices o → fee + x ≡ fee + price_by f prices o
-pay_by prices o fee h e = rw h (ap (λ (i : ℕ). fee + i) e)
+pub price_there : (prices : Option (List ℕ)) {m : Machine} → Pricing prices → Priced m → PricedAt prices m.code.opcodes m.state.pointer
+price_there None h p = record { there = _ }
+price_there (Some s) {m} h p = record { there = (p.here, omega (arith, known_low (opcode_of m) p.known, h.all)) }

@@ -1,6 +1,8 @@
 -- Steps behind place A, with or without their records in a lent log and their rows in a lent table: what the code of run, trace_execution and trace_rows
 -- share.
-use Rattle.std.specs.Prelude.{ℕ, ◌+◌, ◌≤◌, ◌<◌, ◌≡◌, Bool, true, false, List, [], length, get_or}
+use Rattle.std.specs.Prelude.{ℕ, ◌+◌, ◌≤◌, ◌<◌, ◌≡◌, Bool, true, false, List, [], length, get_or, Result, Ok, Err, IfOk, Option, Some, None, IfSome}
+use Rattle.machine.specs.declared.refusal.InstructionError.{InstructionError}
+use Rattle.machine.specs.declared.state.VMState.{VMState}
 use Rattle.choices.specs.Choice.{cond}
 use Rattle.machine.specs.Machine.{Memory, Machine, machine}
 use Rattle.machine.specs.Decide.{decide_of}
@@ -13,27 +15,27 @@ use Rattle.machine.specs.Lengths.{longest, most_bytes, row_words}
 use Rattle.machine.specs.ProcessorRow.{row_of, rows_from}
 use Rattle.machine.specs.Sound.{Sound}
 use Rattle.machine_log.specs.Logged.{logged}
-use Rattle.machine_perform.specs.declared.answer.Stepped.{Stepped}
 use Rattle.machine_perform.specs.AnswerView.{Gives}
 use Rattle.machine_steps.specs.declared.answer.Ending.{Ending as EndingIn}
 use Rattle.machine_steps.specs.declared.answer.Ending.TheVariants.{Full, TableFull}
 use Rattle.machine_steps.specs.declared.answer.Ran.{Ran}
 use Rattle.machine_steps.specs.RanView.{RanOn}
 
--- t says whether records are asked for, u whether rows are, and f whether prices are
+-- t says whether records are asked for, and u whether rows are
 
--- what a step with opcode o costs
-abbrev pub price_by : Bool → List ℕ → ℕ → ℕ
-price_by f prices o = cond f (get_or prices o 0) 0
+-- what a step with opcode o costs, by the prices of the opcodes, where there are any
+abbrev pub price_by : Option (List ℕ) → ℕ → ℕ
+price_by None o = 0
+price_by (Some prices) o = get_or prices o 0
 
 -- a slot whose opcode has one
-pub record PricedAt (f : Bool) (prices opcodes : List ℕ) (pointer : ℕ) : Type 0 where
-  pub there : f ≡ true → (pointer < length opcodes) × (get_or opcodes pointer 0 < length prices)
+pub record PricedAt (prices : Option (List ℕ)) (opcodes : List ℕ) (pointer : ℕ) : Type 0 where
+  pub there : IfSome prices (λ s. (pointer < length opcodes) × (get_or opcodes pointer 0 < length s))
 
--- a price for each opcode, of 32 bits, where they are asked for
-pub record Pricing (f : Bool) (prices : List ℕ) : Type 0 where
-  pub all : f ≡ true → 128 ≤ length prices
-  pub narrow : (o : ℕ) → price_by f prices o ≤ 4294967295
+-- one for each opcode, of 32 bits
+pub record Pricing (prices : Option (List ℕ)) : Type 0 where
+  pub all : IfSome prices (λ s. 128 ≤ length s)
+  pub narrow : (o : ℕ) → price_by prices o ≤ 4294967295
 
 abbrev pub left_of : Bool → ℕ → Left
 left_of t n = cond t (left_count n) unlent
@@ -65,10 +67,12 @@ rows_of u m ms = cond u (rows_from m ms) []
 
 -- ---- one step behind place `at` of the log
 
--- a sound machine, and room for a step's records where they are asked for
+-- a sound machine that is not halted, and room for a step's records where they are asked for
 pub record StandingAt (t : Bool) (m : Machine) (b : List ℕ) (at : ℕ) : Type 0 where
   pub sound : Sound m
+  pub on : m.state.halted ≡ false
   pub within : at ≤ length b
+  pub few : length b ≤ longest
   pub room : t ≡ true → at + most_bytes m.state.revision ≤ length b
 
 -- what a step that is taken writes, and one that is not
@@ -77,21 +81,27 @@ log_in own (took x) = own
 log_in own (kept r) = []
 log_in own (lost r x) = []
 
-pub record AdvancedAt (t : Bool) (m : Machine) (b : List ℕ) (at : ℕ) (r : Stepped) (n : Memory) (b2 : List ℕ) : Type 0 where
-  pub gives : Gives m (outcome_by decide_of m) r.answer (machine r.state m.code n)
-  pub bytes : r.bytes ≡ length (log_in (own_log t m) (outcome_by decide_of m))
+-- a step's answer, without the place behind its records
+abbrev pub answer_of : Result ℕ InstructionError → Result (Unit {0}) InstructionError
+answer_of (Ok next) = Ok tt
+answer_of (Err e) = Err e
+
+-- answer and machine are those of a step from m, and its records stand from place `at` on
+pub record SteppedAt (t : Bool) (m : Machine) (b : List ℕ) (at : ℕ) (r : Result ℕ InstructionError) (s : VMState) (n : Memory) (b2 : List ℕ) : Type 0 where
+  pub gives : Gives m (outcome_by decide_of m) (answer_of r) (machine s m.code n)
+  pub place : IfOk r (λ next. next ≡ at + length (own_log t m))
   pub buffer : b2 ≡ logged b at (log_in (own_log t m) (outcome_by decide_of m))
 
 -- ---- all of them
 
--- a sound machine, a log and a table that are not too long, and prices where they are asked for
-pub record StandingIn (f : Bool) (m : Machine) (b w prices : List ℕ) : Type 0 where
+-- a sound machine, a log and a table that are not too long, and prices, where there are any
+pub record StandingIn (m : Machine) (b w : List ℕ) (prices : Option (List ℕ)) : Type 0 where
   pub sound : Sound m
   pub few : length b ≤ longest
   pub few_rows : length w ≤ longest
-  pub pricing : Pricing f prices
+  pub pricing : Pricing prices
 
-abbrev pub StepsOn : Bool → Bool → Bool → ℕ → Machine → List ℕ → List ℕ → List ℕ → Ran → Memory → List ℕ → List ℕ → Type 0
-StepsOn t u f budget m b w prices r n b2 w2 =
+abbrev pub StepsOn : Bool → Bool → ℕ → Machine → List ℕ → List ℕ → Option (List ℕ) → Ran → Memory → List ℕ → List ℕ → Type 0
+StepsOn t u budget m b w prices r n b2 w2 =
     let p = path_by decide_of (space_of t u (length b) (length w)) budget m in
-    RanOn p (fee_from (price_by f prices) m p.machines) (log_of t m p.machines) (rows_of u m p.machines) m.code b w r n b2 w2
+    RanOn p (fee_from (price_by prices) m p.machines) (log_of t m p.machines) (rows_of u m p.machines) m.code b w r n b2 w2

@@ -5,7 +5,9 @@ use mathlib.Core.List.{List, []}
 use Prim.Native.Nat.{ℕ, ◌≤◌, ◌<◌}
 use native.Mathlib.Omega.{arith}
 use lib.ListN.{length}
-use Rattle.std.specs.Prelude.{Ok, Err, Option, Some, None, is_some}
+use denote.Ref.{Bor}
+use Rattle.std.specs.Prelude.{Ok, Err, Option, Some, None}
+use Rattle.std.specs.Option.{option_and, option_copied}
 use Rattle.machine.specs.declared.state.VMState.{VMState}
 use Rattle.machine_fees.specs.declared.fee_table.LentFees.{LentFees}
 use Rattle.machine.specs.declared.refusal.InstructionError.{InstructionError}
@@ -74,14 +76,14 @@ call_number {t} {u} s c {m} {k} {b} {w} l h e = e ∙ rw (h, long_is u (length w
 
 -- ---- the answers
 
--- whether there is a table
-abbrev pub is_priced : Fees → Bool
-is_priced unpriced = false
-is_priced (priced t) = true
+-- the prices, where there is a table
+abbrev pub prices_in : Fees → List ℕ → Option (List ℕ)
+prices_in unpriced qs = None
+prices_in (priced t) qs = Some qs
 
-pub priced_is : (o : Option LentFees) → is_some o ≡ is_priced (fees_of o)
-priced_is None = refl
-priced_is (Some t) = refl
+pub prices_are : (o : Option LentFees) (r : Bor (List ℕ)) → option_copied (option_and o (Some r)) ≡ prices_in (fees_of o) r.now
+prices_are None r = refl
+prices_are (Some t) r = refl
 
 module _ {t u : Bool} (f : Fees) (budget : ℕ) (m : Machine) {b w qs : List ℕ} {n : ℕ} (l : Unasked t u b w) (e : n ≡ call_a (space_of t u (length b) (length w)) m) where
   module _ {v : Unit {0}} (h : FeesChecked f n (Ok v) qs) where
@@ -96,7 +98,7 @@ module _ {t u : Bool} (f : Fees) (budget : ℕ) (m : Machine) {b w qs : List ℕ
         (k.0, i.0, i.1)
 
     -- the sponge has sixteen words and the clock 32 bits by their types
-    pub call_stands : length m.state.sponge.words ≡ 16 → m.state.clock < 4294967296 → StandingIn (is_priced f) m b w qs
+    pub call_stands : length m.state.sponge.words ≡ 16 → m.state.clock < 4294967296 → StandingIn m b w (prices_in f qs)
     call_stands sixteen clock =
         record {
           sound = machine-sound m sixteen clock fine.2;
@@ -105,18 +107,18 @@ module _ {t u : Bool} (f : Fees) (budget : ℕ) (m : Machine) {b w qs : List ℕ
           pricing = prices_there f (h.prices refl);
         }
       where
-        prices_there : (f : Fees) → FeePricing f qs → Pricing (is_priced f) qs
-        prices_there unpriced k = record { all = λ y. absurd (true≢false (sym y)); narrow = λ o. omega arith }
-        prices_there (priced a) k = record { all = λ _. omega (arith, k.priceable.all); narrow = k.priceable.narrow }
+        prices_there : (f : Fees) → FeePricing f qs → Pricing (prices_in f qs)
+        prices_there unpriced k = record { all = _; narrow = λ o. omega arith }
+        prices_there (priced a) k = record { all = omega (arith, k.priceable.all); narrow = k.priceable.narrow }
 
-    price_same : (f : Fees) → FeePricing f qs → (o : ℕ) → known_in (decode o) ≡ true → price_by (is_priced f) qs o ≡ price_in f o
+    price_same : (f : Fees) → FeePricing f qs → (o : ℕ) → known_in (decode o) ≡ true → price_by (prices_in f qs) o ≡ price_in f o
     price_same unpriced k o y = refl
     price_same (priced a) k o y = k.is o y
 
-    pub call_accepted : {b2 w2 : List ℕ} {r : Ran} {n2 : Memory} → Sound m → StepsOn t u (is_priced f) budget m b w qs r n2 b2 w2 → Calls t u f budget m b w r n2 b2 w2
+    pub call_accepted : {b2 w2 : List ℕ} {r : Ran} {n2 : Memory} → Sound m → StepsOn t u budget m b w (prices_in f qs) r n2 b2 w2 → Calls t u f budget m b w r n2 b2 w2
     call_accepted {b2} {w2} {r} {n2} s g =
         let x = path_by decide_of (space_of t u (length b) (length w)) budget m in
-        let same : fee_from (price_by (is_priced f) qs) m x.machines ≡ fee_of f m x.machines = fee_alike (price_by (is_priced f) qs) (price_in f) (price_same f (h.prices refl)) (path-row decide_of (goes decide_of (space_of t u (length b) (length w)) budget m)).chain s in
+        let same : fee_from (price_by (prices_in f qs)) m x.machines ≡ fee_of f m x.machines = fee_alike (price_by (prices_in f qs)) (price_in f) (price_same f (h.prices refl)) (path-row decide_of (goes decide_of (space_of t u (length b) (length w)) budget m)).chain s in
         subst (λ (y : Path). RanOn y (fee_of f m y.machines) (log_of t m y.machines) (rows_of u m y.machines) m.code b w r n2 b2 w2)
         (sym (call-is decide_of f (space_of t u (length b) (length w)) budget m right))
         (subst (λ (i : ℕ). RanOn x i (log_of t m x.machines) (rows_of u m x.machines) m.code b w r n2 b2 w2) same g)

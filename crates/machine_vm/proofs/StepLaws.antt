@@ -7,7 +7,7 @@ use native.Mathlib.Omega.{arith}
 use borrow.Author.Tests.{eq-eqb, eqb-true, eqb-false}
 use lib.ListN.{length}
 use lib.Dec.{eqb}
-use Rattle.std.specs.Prelude.{Ok, Err}
+use Rattle.std.specs.Prelude.{Result, Ok, Err, is_ok}
 use Rattle.machine.specs.declared.refusal.InstructionError.{InstructionError}
 use Rattle.choices.specs.Choice.{first_of, above_of}
 use Rattle.machine.specs.Refusal.{Refusal, refusal_of}
@@ -25,11 +25,9 @@ use Rattle.machine.proofs.PlaceA.{machine-sound}
 use Rattle.machine.proofs.Refused.{refusal_some, step-refuses}
 use Rattle.machine_fees.specs.FeeView.{FeesChecked}
 use Rattle.machine_fees.proofs.FeeLaws.{fees_fine}
-use Rattle.machine_perform.specs.declared.answer.Answer.{Answer}
-use Rattle.machine_perform.specs.declared.answer.Answer.TheVariants.{Took, Refused}
 use Rattle.machine_perform.specs.declared.answer.Stepped.{Stepped}
 use Rattle.machine_perform.specs.AnswerView.{did, turned, answer_in, answered_by}
-use Rattle.machine_vm.specs.StepView.{Steps, taken_in, NamesRow}
+use Rattle.machine_vm.specs.StepView.{Steps, NamesRow}
 use Rattle.machine_step.specs.AdvanceView.{Standing, Advanced}
 
 -- k is the memory as it is looked at
@@ -50,7 +48,7 @@ module _ (f : Fees) (m : Machine) (b : List ℕ) {n : ℕ} {qs : List ℕ} (e : 
       let k = eq-eqb (checked f (step_a m b)).number 0 (ap (λ (x : ℕ). (checked f x).number) (sym e) ∙ fees_fine f n (Ok v) qs c refl) in
       record { gives = rw k a.gives; bytes = rw k a.bytes; buffer = rw k a.buffer }
 
-  pub step_turned : {x : InstructionError} → FeesChecked f n (Err x) qs → Steps f m b (record { answer = Refused x; state = m.state; bytes = 0 }) m.memory b
+  pub step_turned : {x : InstructionError} → FeesChecked f n (Err x) qs → Steps f m b (record { answer = Err x; state = m.state; bytes = 0 }) m.memory b
   step_turned {x} c =
       let w : refusal_of x ≡ checked f (step_a m b) = c.fault ∙ ap (checked f) e in
       let k = step-refuses decide_of f m b (λ y. omega (arith, refusal_some x, ap (λ (r : Refusal). r.number) w ∙ y)) in
@@ -58,17 +56,17 @@ module _ (f : Fees) (m : Machine) (b : List ℕ) {n : ℕ} {qs : List ℕ} (e : 
 
 -- ---- with a fee table
 
-took-taken : (a : Answer) → answer_in a ≡ did → taken_in a ≡ true
-took-taken Took h = refl
-took-taken (Refused e) h = let z : ◌≡◌ {A = ℕ} 0 1 = cc in absurd (omega arith)
+took-taken : (a : Result (Unit {0}) InstructionError) → answer_in a ≡ did → is_ok a ≡ true
+took-taken (Ok u) h = refl
+took-taken (Err e) h = let z : ◌≡◌ {A = ℕ} 0 1 = cc in absurd (omega arith)
 
-turned_untaken : (a : Answer) (r : Refusal) → answer_in a ≡ turned r → taken_in a ≡ false
-turned_untaken Took r h = let z : ◌≡◌ {A = ℕ} 0 1 = cc in absurd (omega arith)
-turned_untaken (Refused e) r h = refl
+turned_untaken : (a : Result (Unit {0}) InstructionError) (r : Refusal) → answer_in a ≡ turned r → is_ok a ≡ false
+turned_untaken (Ok u) r h = let z : ◌≡◌ {A = ℕ} 0 1 = cc in absurd (omega arith)
+turned_untaken (Err e) r h = refl
 
 -- a step that is taken, by its answer
 module _ {t : FeeTable} {m : Machine} {b b2 : List ℕ} {r : Stepped} {n : Memory} (s : Steps (priced t) m b r n b2) where
-  taken-right : taken_in r.answer ≡ true → (checked (priced t) (step_a m b)).number ≡ 0
+  taken-right : is_ok r.answer ≡ true → (checked (priced t) (step_a m b)).number ≡ 0
   taken-right y = go (eqb (checked (priced t) (step_a m b)).number 0) refl
     where
       go : (x : Bool) → eqb (checked (priced t) (step_a m b)).number 0 ≡ x → (checked (priced t) (step_a m b)).number ≡ 0
@@ -79,12 +77,12 @@ module _ {t : FeeTable} {m : Machine} {b b2 : List ℕ} {r : Stepped} {n : Memor
           absurd (true≢false (sym y ∙ turned_untaken r.answer _ l))
 
   -- its table's slices are as long as each other
-  pub taken-shaped : taken_in r.answer ≡ true → length t.lowest ≡ length t.highest
+  pub taken-shaped : is_ok r.answer ≡ true → length t.lowest ≡ length t.highest
   taken-shaped y =
       let k = checked-slices t (step_a m b) (taken-right y) in
       table_lowest t k ∙ sym (table-highest t k)
 
-  pub names_row : {o x : ℕ} {y : Bool} → y ≡ taken_in r.answer → o ≡ opcode_of m → NamesRow y t.lowest t.highest o x → x ≡ row_named (priced t) m (step_of (priced t) m b).outcome
+  pub names_row : {o x : ℕ} {y : Bool} → y ≡ is_ok r.answer → o ≡ opcode_of m → NamesRow y t.lowest t.highest o x → x ≡ row_named (priced t) m (step_of (priced t) m b).outcome
   names_row {o} {x} {y} e q h = go (step_of (priced t) m b).outcome refl
     where
       none_named : (w : Refusal) → answer_in r.answer ≡ turned w → x ≡ 0

@@ -1,12 +1,10 @@
 -- What the code's answers to step stand for.
-use Rattle.std.specs.Prelude.{◌≡◌, Bool, true, false, List, ℕ, length}
+use Rattle.std.specs.Prelude.{◌≡◌, Bool, List, ℕ, length}
 use Rattle.choices.specs.Choice.{cond}
 use Rattle.machine.specs.Machine.{Memory, Machine, machine}
 use Rattle.machine.specs.FeeTable.{fee_table, row_for, Fees}
 use Rattle.machine.specs.Fee.{row_named}
 use Rattle.machine.specs.Step.{step_of}
-use Rattle.machine_perform.specs.declared.answer.Answer.{Answer}
-use Rattle.machine_perform.specs.declared.answer.Answer.TheVariants.{Took, Refused}
 use Rattle.machine_perform.specs.declared.answer.Stepped.{Stepped}
 use Rattle.machine_perform.specs.AnswerView.{Gives}
 use Rattle.machine_vm.specs.declared.step.Priced.{Priced}
@@ -18,10 +16,6 @@ pub record Steps (f : Fees) (m : Machine) (b : List ℕ) (r : Stepped) (n : Memo
   pub buffer : b2 ≡ (step_of f m b).buffer
 
 -- ---- with a fee table
-
-abbrev pub taken_in : Answer → Bool
-taken_in Took = true
-taken_in (Refused e) = false
 
 -- the row for an opcode in a table with these bounds, whatever its fees; 0 where the step was refused
 pub record NamesRow (taken : Bool) (l h : List ℕ) (o r : ℕ) : Type 0 where

@@ -49,29 +49,18 @@ fn checked(
         (memory_of memory.new) b.new table.new }
     ensures lent { Keeps memory.old memory.new }
 {
-    let pricing = fees.is_some();
     let handed = check_lent(table.len(), b.len(), &state, code, &memory.look());
     match check_fees(fees, handed, prices) {
         Ok(()) => steps(
             recording,
             tabling,
-            pricing,
             budget,
             state,
-            code.opcodes,
-            code.arguments,
-            code.public,
-            code.secret,
-            code.digests,
-            memory.op_stack,
-            memory.origins,
-            memory.destinations,
-            memory.addresses,
-            memory.values,
-            memory.output,
+            code,
+            memory,
             b,
             table,
-            prices,
+            fees.and(Some(&*prices)),
         ),
         Err(error) => Ran {
             count: 0,

@@ -1,18 +1,18 @@
 // step: place A, and the fee table where one is handed in, then one step with its records.
-ghost use Rattle.std.specs.Prelude.{◌≡◌, true, length, get_or, IsSome};
+ghost use Rattle.std.specs.Prelude.{◌≡◌, true, length, get_or, IsSome, is_ok};
 ghost use Rattle.choices.specs.Choice.{first_of};
 ghost use Rattle.machine.specs.Machine.{machine};
 ghost use Rattle.machine.specs.PlaceA.{step_a};
 ghost use Rattle.machine.specs.Refusal.{found_a};
 ghost use Rattle.machine.specs.Lent.{code_of, memory_of, seen, Keeps};
 ghost use Rattle.machine_fees.specs.FeeView.{Priceable, fees_of};
-ghost use Rattle.machine_vm.specs.StepView.{Steps, NamesRow, StepsPriced, taken_in};
+ghost use Rattle.machine_vm.specs.StepView.{Steps, NamesRow, StepsPriced};
 
 use machine::lent::{LentCode, LentMemory, SeenMemory};
-use machine::refusal::PlaceA;
+use machine::refusal::{InstructionError, PlaceA};
 use machine::state::VMState;
 use machine_fees::fee_table::{LentFees, check_fees};
-use machine_perform::answer::{Answer, Stepped};
+use machine_perform::answer::Stepped;
 use machine_place_a::checks::{check_buffer, check_machine};
 use machine_step::advance::advance;
 
@@ -45,24 +45,9 @@ fn checked(
 {
     let handed = check_step(b, &state, code, &memory.look());
     match check_fees(fees, handed, prices) {
-        Ok(()) => advance(
-            true,
-            state,
-            code.opcodes,
-            code.arguments,
-            code.public,
-            code.secret,
-            code.digests,
-            memory.op_stack,
-            memory.origins,
-            memory.destinations,
-            memory.addresses,
-            memory.values,
-            memory.output,
-            b,
-        ),
+        Ok(()) => advance(true, &state, code, memory, b),
         Err(error) => Stepped {
-            answer: Answer::Refused(error),
+            answer: Err(error),
             state,
             bytes: 0,
         },
@@ -85,13 +70,13 @@ fn opcode_at(opcodes: &[u64], pointer: u64) -> u64
 }
 
 // A refused step costs nothing and names row 0.
-fn row_named(answer: Answer, opcode: u64, table: &LentFees<'_>) -> usize
-    requires { taken_in answer ≡ true → length table.now.lowest.now ≡ length table.now.highest.now }
-    ensures { NamesRow (taken_in answer) table.now.lowest.now table.now.highest.now opcode result }
+fn row_named(answer: Result<(), InstructionError>, opcode: u64, table: &LentFees<'_>) -> usize
+    requires { is_ok answer ≡ true → length table.now.lowest.now ≡ length table.now.highest.now }
+    ensures { NamesRow (is_ok answer) table.now.lowest.now table.now.highest.now opcode result }
 {
     match answer {
-        Answer::Took => table.find_row(opcode).row,
-        Answer::Refused(_) => 0,
+        Ok(()) => table.find_row(opcode).row,
+        Err(_) => 0,
     }
 }
 

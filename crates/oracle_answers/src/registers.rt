@@ -46,17 +46,3 @@ pub fn with_counts(state: VMState, counts: Counts) -> VMState {
         ..state
     }
 }
-
-// Whether all registers are alike but the sponge's words.
-pub fn same(a: VMState, b: VMState) -> bool {
-    let alike = (a.clock, a.pointer, a.halted) == (b.clock, b.pointer, b.halted);
-    let used = (a.depth, a.jumps, a.cells, a.outputs) == (b.depth, b.jumps, b.cells, b.outputs);
-    let taken = (a.publics, a.secrets, a.digests) == (b.publics, b.secrets, b.digests);
-    alike && used && taken
-}
-
-pub fn same_sponge(a: VMState, b: VMState) -> bool {
-    let a = a.sponge;
-    let b = b.sponge;
-    a.set == b.set && a.words == b.words
-}

@@ -2,12 +2,11 @@
 use crate::counts::CALLS;
 use crate::entry::Entry;
 use crate::memory::{Code, Memory};
-use crate::registers::{same, same_sponge};
 use machine::lent::{LentCode, LentMemory, SeenMemory};
-use machine::refusal::PlaceA;
+use machine::refusal::{InstructionError, PlaceA};
 use machine::state::VMState;
 use machine_open::helper_variables::helper_variables;
-use machine_perform::answer::{Answer, Stepped};
+use machine_perform::answer::Stepped;
 use machine_refusals::refusals::Refusal;
 use machine_vm::step::step;
 use std::io;
@@ -50,15 +49,15 @@ fn stepped(before: VMState, code: &Code, memory: &mut Memory, calls: &mut [u8]) 
 }
 
 // A number, 0 where the step is taken, and the three words that go with it.
-fn answered(answer: Answer) -> Refusal {
+fn answered(answer: Result<(), InstructionError>) -> Refusal {
     match answer {
-        Answer::Took => Refusal {
+        Ok(()) => Refusal {
             number: 0,
             word0: 0,
             word1: 0,
             word2: 0,
         },
-        Answer::Refused(error) => Refusal::from(error),
+        Err(error) => Refusal::from(error),
     }
 }
 
@@ -77,6 +76,11 @@ pub fn right(rt: &impl Print, index: u32, mut e: Entry) -> io::Result<bool> {
     let job = &mut e;
     let stepped = stepped(job.before, &job.code, &mut job.memory, &mut calls[..room]);
     let answer = answered(stepped.answer);
+    // The sponge is a part of its own.
+    let registers = VMState {
+        sponge: e.after.sponge,
+        ..stepped.state
+    };
     let memory = &e.memory;
     let wanted = &e.memory_after;
     let parts = [
@@ -85,8 +89,8 @@ pub fn right(rt: &impl Print, index: u32, mut e: Entry) -> io::Result<bool> {
         ("helper variables", helpers == e.helpers),
         ("number", answer.number == e.answer.number),
         ("carried words", carried(answer) == carried(e.answer)),
-        ("registers", same(stepped.state, e.after)),
-        ("sponge", same_sponge(stepped.state, e.after)),
+        ("registers", registers == e.after),
+        ("sponge", stepped.state.sponge == e.after.sponge),
         ("op stack", memory.op_stack == wanted.op_stack),
         ("origins", memory.origins == wanted.origins),
         ("destinations", memory.destinations == wanted.destinations),

@@ -22,7 +22,6 @@ use Rattle.replay_scan.specs.FaultView.{fault_number, fault_or_0}
 use Rattle.replay_table.specs.declared.table.Table.{Table as LentTable}
 use Rattle.replay_calls.specs.declared.refusal.Refusal.{Refusal}
 use Rattle.replay_calls.specs.declared.refusal.Refusal.TheVariants.{Log as LogRefusal}
-use Rattle.replay_calls.specs.RefusalView.{refusal_number}
 use Rattle.replay_scan.proofs.ScanLaws.{fault_some}
 use Rattle.replay.specs.Replay.{started, Went, bad, finished, replay_a, replay_of}
 use Rattle.replay_scan.specs.Walk.{Log, log_of, Walk, Walked}

@@ -1,19 +1,16 @@
 -- Place A of replay: where its code stops, and what is so where it finds nothing wrong. Assumes nothing.
 use mathlib.Core.Path.{◌≡◌, refl, sym, ◌∙◌}
-use mathlib.Core.List.{List, []}
-use Prim.Native.Nat.{ℕ, ◌-◌, ◌≤◌, ◌<◌}
+use mathlib.Core.List.{List}
+use Prim.Native.Nat.{ℕ, ◌-◌, ◌≤◌}
 use native.Mathlib.Omega.{arith}
 use lib.ListN.{length, replicate, length-replicate}
-use lib.Seq.{take_all, ext_get_or}
-use Rattle.choices.specs.Choice.{first_of}
+use lib.Seq.{ext_get_or}
 use Rattle.machine.specs.Words.{zeros_from}
-use Rattle.machine.specs.Ram.{Cells, cells, cells1, cells2, cells5}
-use Rattle.machine_isa.specs.Copied.{copied}
-use Rattle.machine.specs.PlaceA.{too_long, revision4, unused5}
+use Rattle.machine.specs.Ram.{Cells}
+use Rattle.machine.specs.PlaceA.{unused5}
 use Rattle.machine.specs.Sound.{SoundCells}
 use Rattle.choices.proofs.Choice.{first-nil, above-nil}
 use Rattle.machine.proofs.Words.{zeros_nil, zeros_get_d}
-use Rattle.machine_isa.proofs.Copies.{fill_end}
 use Rattle.machine.proofs.PlaceA.{cells-sound}
 use Rattle.replay.specs.Replay.{replay_a}
 
@@ -47,10 +44,3 @@ accepted v log c s h =
       few = above-nil _ _ 1 (omega arith) z.1;
       zeros = all_zero s u.1;
     }
-
--- ---- the stack slice cleared
-
-pub cleared : (s t : List ℕ) (n : ℕ) → n ≡ length s → t ≡ copied s 0 (replicate n 0) n → t ≡ replicate (length s) 0
-cleared s t n e h =
-    let l : length {A = ℕ} (replicate n 0) ≤ n = rw length-replicate (omega arith) in
-    rw (← e) (fill_end s t (replicate n 0) n n (omega arith) (sym e) h ∙ take_all n (replicate n 0) l)

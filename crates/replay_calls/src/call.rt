@@ -6,14 +6,15 @@ ghost use Rattle.replay_scan.specs.FaultView.{fault_or_0};
 ghost use Rattle.replay_scan.specs.RecordView.{log_at};
 ghost use Rattle.replay_scan.specs.Walk.{Walked};
 ghost use Rattle.replay_table.specs.Merge.{Sorted};
-ghost use Rattle.replay_table.specs.LentView.{cells_at, Kept, KeptTable};
+ghost use Rattle.machine_ram.specs.LentCells.{cells_of_mut};
+ghost use Rattle.replay_table.specs.LentView.{Kept, KeptTable};
 ghost use Rattle.replay_group.specs.GroupView.{LentTo};
 ghost use Rattle.replay_group.specs.Decided.{Decides, LeftIn, Scans, Rebuilds};
 ghost use Rattle.replay_calls.specs.RefusalView.{number_in};
 ghost use Rattle.replay_calls.specs.ReplayView.{replayed_by};
 ghost use Rattle.replay_calls.specs.Quiet.{Quiet};
 
-use crate::place_a::{check_replay, clear};
+use crate::place_a::check_replay;
 use crate::refusal::Refusal;
 use replay_group::group::sweep_all;
 use replay_group::write::write_back;
@@ -32,8 +33,8 @@ fn decide(
     cells: &Cells<'_>,
     table: &mut Table<'_>,
 ) -> Result<bool, Fault>
-    requires { Walked (log_at log) to × Sorted (cells_at cells.now) × LentTo table.old }
-    ensures decides { Decides (log_at log.entry) to (fault_or_0 fault) (cells_at cells.now) (number_in result) }
+    requires { Walked (log_at log) to × Sorted (cells_of_mut cells.now) × LentTo table.old }
+    ensures decides { Decides (log_at log.entry) to (fault_or_0 fault) (cells_of_mut cells.now) (number_in result) }
     ensures left { IfOk result (λ whole. LeftIn (log_at log.entry) to whole table.new) }
     ensures kept { KeptTable table.old table.new }
 {
@@ -63,8 +64,8 @@ fn rebuild(
     cells: &mut Cells<'_>,
     table: &mut Table<'_>,
 ) -> Result<(), Fault>
-    requires { Scans (log_at log) to (cells_at cells.old) × LentTo table.old }
-    ensures rebuilds { Rebuilds (log_at log.entry) to (fault_or_0 fault) (cells_at cells.old) (number_in result) (cells_at cells.new) }
+    requires { Scans (log_at log) to (cells_of_mut cells.old) × LentTo table.old }
+    ensures rebuilds { Rebuilds (log_at log.entry) to (fault_or_0 fault) (cells_of_mut cells.old) (number_in result) (cells_of_mut cells.new) }
     ensures kept { Kept cells.old cells.new }
 {
     let whole = decide(log, to, fault, cells, table)?;
@@ -79,8 +80,8 @@ fn by_table_of<const N: usize, const M: usize>(
     fault: Option<Fault>,
     cells: &mut Cells<'_>,
 ) -> Result<(), Fault>
-    requires { Scans (log_at log) to (cells_at cells.old) × (1 < N) × (N < 65536) × (0 < M) × (M < 65536) }
-    ensures rebuilds { Rebuilds (log_at log.entry) to (fault_or_0 fault) (cells_at cells.old) (number_in result) (cells_at cells.new) }
+    requires { Scans (log_at log) to (cells_of_mut cells.old) × (1 < N) × (N < 65536) × (0 < M) × (M < 65536) }
+    ensures rebuilds { Rebuilds (log_at log.entry) to (fault_or_0 fault) (cells_of_mut cells.old) (number_in result) (cells_of_mut cells.new) }
     ensures kept { Kept cells.old cells.new }
 {
     let mut addresses = [0u64; N];
@@ -104,8 +105,8 @@ fn by_table_of<const N: usize, const M: usize>(
 // A log without a record of RAM is not read again. One with fewer bytes has fewer records of RAM than the small table has cells, and that is
 // soon made; the large one takes some 200 KiB.
 fn by_table(log: Log<'_>, scan: Scan, cells: &mut Cells<'_>) -> Result<(), Fault>
-    requires { Scans (log_at log) scan.end (cells_at cells.old) × Quiet (log_at log) scan.end scan.ram }
-    ensures rebuilds { Rebuilds (log_at log.entry) scan.end (fault_or_0 scan.fault) (cells_at cells.old) (number_in result) (cells_at cells.new) }
+    requires { Scans (log_at log) scan.end (cells_of_mut cells.old) × Quiet (log_at log) scan.end scan.ram }
+    ensures rebuilds { Rebuilds (log_at log.entry) scan.end (fault_or_0 scan.fault) (cells_of_mut cells.old) (number_in result) (cells_of_mut cells.new) }
     ensures kept { Kept cells.old cells.new }
 {
     if !scan.ram {
@@ -127,13 +128,13 @@ pub fn replay(
     words: &mut [u64],
     clock: u64,
 ) -> Result<usize, Refusal>
-    ensures replayed { replayed_by result words.new (cells_at cells.new) ≡ replay_of log.entry.revision log.entry.bytes.now (cells_at cells.old) words.old clock }
+    ensures replayed { replayed_by result words.new (cells_of_mut cells.new) ≡ replay_of log.entry.revision log.entry.bytes.now (cells_of_mut cells.old) words.old clock }
     ensures kept { Kept cells.old cells.new }
 {
     check_replay(log, cells, words)?;
     let scan = scan_log(log, words, clock);
     if let Err(fault) = by_table(log, scan, cells) {
-        clear(words);
+        words.fill(0);
         return Err(Refusal::Log(fault));
     }
     Ok(scan.depth)

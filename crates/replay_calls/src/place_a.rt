@@ -1,11 +1,10 @@
-// Place A of replay; and the stack slice set to 0 again, for a refusal behind it.
-ghost use Rattle.std.specs.Prelude.{◌≡◌, length, replicate};
+// Place A of replay.
+ghost use Rattle.std.specs.Prelude.{◌≡◌};
 ghost use Rattle.replay.specs.Replay.{replay_a};
-ghost use Rattle.replay_table.specs.LentView.{cells_at};
+ghost use Rattle.machine_ram.specs.LentCells.{cells_of_mut};
 ghost use Rattle.machine.specs.Refusal.{found_a};
 
 use machine::refusal::PlaceA;
-use machine_isa::op_stack;
 use machine_place_a::checks;
 use replay_scan::record::Log;
 use replay_table::cells::Cells;
@@ -13,7 +12,7 @@ use replay_table::cells::Cells;
 // The log is looked at by its length alone.
 #[tactic(auto, using(crate::proofs::PlaceALaws::all_unused), unfolding(choices::specs::Choice::first_of, machine::specs::Ram::cells1, machine::specs::Ram::cells5, replay::specs::Replay::replay_a))]
 pub fn check_replay(log: Log<'_>, cells: &Cells<'_>, words: &[u64]) -> Result<(), PlaceA>
-    ensures { found_a result ≡ replay_a log.entry.revision log.entry.bytes.now (cells_at cells.now) words.now }
+    ensures { found_a result ≡ replay_a log.entry.revision log.entry.bytes.now (cells_of_mut cells.now) words.now }
 {
     checks::check_length(log.bytes.len())?;
     checks::check_cell_lengths(cells.addresses, cells.values)?;
@@ -22,11 +21,4 @@ pub fn check_replay(log: Log<'_>, cells: &Cells<'_>, words: &[u64]) -> Result<()
     checks::check_revision(log.revision)?;
     checks::check_cells(cells.addresses, cells.count)?;
     checks::check_unused(words, 0)
-}
-
-pub fn clear(words: &mut [u64])
-    ensures { words.new ≡ replicate (length words.old) 0 }
-{
-    let n = words.len();
-    op_stack::clear(words, 0, n);
 }

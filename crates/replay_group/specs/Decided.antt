@@ -9,7 +9,7 @@ use Rattle.replay_table.specs.Merge.{Sorted}
 use Rattle.replay_table.specs.Group.{Right, WrongAt, cells_in}
 use Rattle.replay_table.specs.Table.{Table}
 use Rattle.replay_table.specs.declared.table.Table.{Table as LentTable}
-use Rattle.replay_table.specs.LentView.{cells_at}
+use Rattle.machine_ram.specs.LentCells.{cells_of_mut}
 use Rattle.replay_group.specs.WriteView.{Written}
 
 -- from the opening's cells c and the scan's number: that number where all reads are right and the cells suffice, else 43 or 44
@@ -27,7 +27,7 @@ pub record Left (log : Log) (to : ℕ) (whole : Bool) (t : Cells) (s v : List �
   pub table : whole ≡ true → (rs : List Record) → Walk log 0 to rs → Table 0 p rs t (cells 0 s v)
 
 abbrev pub LeftIn : Log → ℕ → Bool → LentTable → Type 0
-LeftIn log to whole t = Left log to whole (cells_at t.cells) t.late.addresses.now t.late.values.now
+LeftIn log to whole t = Left log to whole (cells_of_mut t.cells) t.late.addresses.now t.late.values.now
 
 -- the records up to `to`, whose addresses are words, and the opening's cells
 pub record Scans (log : Log) (to : ℕ) (c : Cells) : Type 0 where

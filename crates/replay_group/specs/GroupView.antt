@@ -5,9 +5,9 @@ use Rattle.machine.specs.Ram.{Cells, cells}
 use Rattle.machine.specs.Records.{Record}
 use Rattle.replay_group.specs.declared.group.Sweep.{Sweep}
 use Rattle.std.specs.Borrow.{Bor}
-use Rattle.replay_table.specs.declared.cells.Cells.{Cells as LentCells}
+use Rattle.machine_ram.specs.declared.ram_mut.RamMut.{RamMut}
 use Rattle.replay_table.specs.declared.table.Table.{Table as LentTable}
-use Rattle.replay_table.specs.LentView.{cells_at}
+use Rattle.machine_ram.specs.LentCells.{cells_of_mut}
 use Rattle.replay_scan.specs.Walk.{Log, Walk}
 use Rattle.replay_table.specs.Group.{Right, Stop, Came, no_cells, cells_in, distinct_in}
 use Rattle.replay_table.specs.Table.{Table}
@@ -23,13 +23,13 @@ abbrev pub LentTo : LentTable → Type 0
 LentTo t = Lent t.cells.addresses.now t.cells.values.now t.late.addresses.now t.late.values.now
 
 -- reads are looked at where the opening's cells are given
-abbrev pub looks : Option (Bor LentCells) → Bool
+abbrev pub looks : Option (Bor RamMut) → Bool
 looks None = false
 looks (Some c) = true
 
-abbrev pub opening_of : Option (Bor LentCells) → Cells
+abbrev pub opening_of : Option (Bor RamMut) → Cells
 opening_of None = no_cells
-opening_of (Some c) = cells_at c.now
+opening_of (Some c) = cells_of_mut c.now
 
 -- of the records rs those before the place `end` made the table; where reads are looked at, they are right, and no more are
 pub record Gathered (log : Log) (checking : Bool) (lo hi : ℕ) (c : Cells) (rs : List Record) (end : ℕ) (t l : Cells) : Type 0 where
@@ -63,4 +63,4 @@ pub record Sweeps (log : Log) (to : ℕ) (c : Cells) (t : LentTable) (r : Sweep)
   pub within : r.end ≤ to
   pub swept : (rs : List Record) → Walk log 0 to rs → Swept log to c rs (length t.cells.addresses.now / 2) r
   -- one group: the table is that of all records
-  pub whole : r.groups ≡ 1 → r.end ≡ to → (rs : List Record) → Walk log 0 to rs → Table 0 p rs (cells_at t.cells) (cells 0 t.late.addresses.now t.late.values.now)
+  pub whole : r.groups ≡ 1 → r.end ≡ to → (rs : List Record) → Walk log 0 to rs → Table 0 p rs (cells_of_mut t.cells) (cells 0 t.late.addresses.now t.late.values.now)

@@ -11,13 +11,14 @@ ghost use Rattle.replay_table.specs.Merge.{Sorted};
 ghost use Rattle.replay_table.specs.Group.{inside};
 ghost use Rattle.replay_table.specs.Table.{Paired};
 ghost use Rattle.replay_table.specs.TableView.{Touches};
-ghost use Rattle.replay_table.specs.LentView.{cells_at, KeptTable};
+ghost use Rattle.machine_ram.specs.LentCells.{cells_of_mut};
+ghost use Rattle.replay_table.specs.LentView.{KeptTable};
 ghost use Rattle.replay_group.specs.GroupView.{LentTo, looks, opening_of, Gathers, Sweeps};
 
 use field::base::P;
 use machine_log::kinds::RecordKind;
 use replay_scan::record::{Head, Log};
-use replay_table::cells::Cells;
+use replay_table::cells::{Cells, lacked};
 use replay_table::table::Table;
 
 // A group's addresses: from `low` on and below `high`.
@@ -62,9 +63,9 @@ fn is_wrong(
     opening: Option<&Cells<'_>>,
     table: &mut Table<'_>,
 ) -> bool
-    requires { (at + length_of log.revision (kind_number kind) + 2 ≤ length log.bytes.now) × Sorted (opening_of opening) × Paired (cells_at table.old.cells) (cells_at table.old.late) × (table.old.late.count < length table.old.late.addresses.now) }
-    ensures touches { Touches (looks opening.entry) group.low group.high (opening_of opening.entry) (cells_at table.old.cells) (cells_at table.old.late)
-        (record_at (log_at log.entry) at (kind_number kind)) result (cells_at table.new.cells) (cells_at table.new.late) }
+    requires { (at + length_of log.revision (kind_number kind) + 2 ≤ length log.bytes.now) × Sorted (opening_of opening) × Paired (cells_of_mut table.old.cells) (cells_of_mut table.old.late) × (table.old.late.count < length table.old.late.addresses.now) }
+    ensures touches { Touches (looks opening.entry) group.low group.high (opening_of opening.entry) (cells_of_mut table.old.cells) (cells_of_mut table.old.late)
+        (record_at (log_at log.entry) at (kind_number kind)) result (cells_of_mut table.new.cells) (cells_of_mut table.new.late) }
     ensures count { table.new.cells.count ≡ table.old.cells.count }
     ensures kept { KeptTable table.old table.new }
 {
@@ -94,7 +95,7 @@ fn pass_log(
     table: &mut Table<'_>,
 ) -> Group
     requires { Walked (log_at log) to × (low < p) × Sorted (opening_of opening) × LentTo table.old }
-    ensures gathers { Gathers (log_at log.entry) to (looks opening.entry) low result.high (opening_of opening.entry) result.end (cells_at table.new.cells) (cells_at table.new.late) }
+    ensures gathers { Gathers (log_at log.entry) to (looks opening.entry) low result.high (opening_of opening.entry) result.end (cells_of_mut table.new.cells) (cells_of_mut table.new.late) }
     ensures kept { KeptTable table.old table.new }
 {
     table.clear();
@@ -123,7 +124,7 @@ pub fn group_from(
     table: &mut Table<'_>,
 ) -> Group
     requires { Walked (log_at log) to × (low < p) × Sorted (opening_of opening) × LentTo table.old }
-    ensures gathers { Gathers (log_at log.entry) to (looks opening.entry) low result.high (opening_of opening.entry) result.end (cells_at table.new.cells) (cells_of 0 table.new.late.addresses.now table.new.late.values.now) }
+    ensures gathers { Gathers (log_at log.entry) to (looks opening.entry) low result.high (opening_of opening.entry) result.end (cells_of_mut table.new.cells) (cells_of 0 table.new.late.addresses.now table.new.late.values.now) }
     ensures kept { KeptTable table.old table.new }
 {
     let group = pass_log(log, to, low, opening, table);
@@ -133,8 +134,8 @@ pub fn group_from(
 
 // All addresses, group by group. A wrong read ends what the later groups pass over.
 pub fn sweep_all(log: Log<'_>, to: usize, opening: &Cells<'_>, table: &mut Table<'_>) -> Sweep
-    requires { Walked (log_at log) to × Sorted (cells_at opening.now) × LentTo table.old }
-    ensures sweeps { Sweeps (log_at log.entry) to (cells_at opening.now) table.new result }
+    requires { Walked (log_at log) to × Sorted (cells_of_mut opening.now) × LentTo table.old }
+    ensures sweeps { Sweeps (log_at log.entry) to (cells_of_mut opening.now) table.new result }
     ensures kept { KeptTable table.old table.new }
 {
     let mut end = to;
@@ -143,7 +144,7 @@ pub fn sweep_all(log: Log<'_>, to: usize, opening: &Cells<'_>, table: &mut Table
     let mut low = 0;
     while low < P {
         let group = group_from(log, end, low, Some(opening), table);
-        cells += opening.lacked(&table.cells);
+        cells += lacked(opening, &table.cells);
         end = group.end;
         groups += 1;
         low = group.high;

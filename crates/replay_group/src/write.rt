@@ -1,7 +1,8 @@
 // A log's writes brought into RAM: the tables of the groups of addresses, one behind the other.
-ghost use Rattle.std.specs.Prelude.{◌≡◌, ◌/◌, length};
+ghost use Rattle.std.specs.Prelude.{◌/◌, length};
 ghost use Rattle.replay_scan.specs.RecordView.{log_at};
-ghost use Rattle.replay_table.specs.LentView.{cells_at, Kept, KeptTable};
+ghost use Rattle.machine_ram.specs.LentCells.{cells_of_mut};
+ghost use Rattle.replay_table.specs.LentView.{Kept, KeptTable};
 ghost use Rattle.replay_group.specs.GroupView.{LentTo};
 ghost use Rattle.replay_group.specs.WriteView.{Fits, Brings, Fitting, Written, Few};
 ghost use Rattle.replay_group.specs.Decided.{LeftIn};
@@ -9,23 +10,23 @@ ghost use Rattle.replay_group.specs.Decided.{LeftIn};
 use crate::group::group_from;
 use field::base::P;
 use replay_scan::record::Log;
-use replay_table::cells::Cells;
+use replay_table::cells::{Cells, lacked, merge};
 use replay_table::table::Table;
 
 // A table's cells.
 fn bring(cells: &mut Cells<'_>, from: &Cells<'_>)
-    requires { Fits (cells_at cells.old) (cells_at from.now) }
-    ensures brings { Brings (cells_at cells.old) (cells_at from.now) (cells_at cells.new) }
+    requires { Fits (cells_of_mut cells.old) (cells_of_mut from.now) }
+    ensures brings { Brings (cells_of_mut cells.old) (cells_of_mut from.now) (cells_of_mut cells.new) }
     ensures kept { Kept cells.old cells.new }
 {
-    let total = cells.count + cells.lacked(from);
-    cells.merge(from, total);
+    let total = cells.count + lacked(cells, from);
+    merge(cells, from, total);
 }
 
 // The records before `to`, group by group; gives how many groups there were.
 fn write_groups(log: Log<'_>, to: usize, cells: &mut Cells<'_>, table: &mut Table<'_>) -> usize
-    requires { Fitting (log_at log) to (cells_at cells.old) × LentTo table.old }
-    ensures written { Written (log_at log.entry) to (cells_at cells.old) (cells_at cells.new) }
+    requires { Fitting (log_at log) to (cells_of_mut cells.old) × LentTo table.old }
+    ensures written { Written (log_at log.entry) to (cells_of_mut cells.old) (cells_of_mut cells.new) }
     ensures few { Few (log_at log.entry) to (length table.old.cells.addresses.now / 2) result }
     ensures kept { Kept cells.old cells.new }
     ensures kept_table { KeptTable table.old table.new }
@@ -49,8 +50,8 @@ pub fn write_back(
     table: &mut Table<'_>,
     whole: bool,
 )
-    requires { Fitting (log_at log) to (cells_at cells.old) × LentTo table.old × LeftIn (log_at log) to whole table.old }
-    ensures written { Written (log_at log.entry) to (cells_at cells.old) (cells_at cells.new) }
+    requires { Fitting (log_at log) to (cells_of_mut cells.old) × LentTo table.old × LeftIn (log_at log) to whole table.old }
+    ensures written { Written (log_at log.entry) to (cells_of_mut cells.old) (cells_of_mut cells.new) }
     ensures kept { Kept cells.old cells.new }
     ensures kept_table { KeptTable table.old table.new }
 {

@@ -12,7 +12,7 @@ use lib.Dec.{eqb}
 use Rattle.choices.specs.Choice.{cond}
 use Rattle.machine.specs.Ram.{Cells, cells, place_of, has_at, has, held}
 use Rattle.machine_ram.specs.RamView.{Looked}
-use Rattle.machine_ram.specs.declared.ram.Found.TheVariants.{At, Absent}
+use Rattle.std.proofs.Common.{Ok, Err}
 use Rattle.machine.proofs.RamLaws.{place-le, place-below, place_is}
 use Rattle.machine_ram.proofs.Order.{has_there, has_where}
 use Rattle.replay_table.specs.Merge.{stored_all, lacked, Merging, Merged, Topped, of_own, of_both, of_new, Lacked, LacksOne}
@@ -230,11 +230,11 @@ module _ (c t : Cells) (total : ℕ) (given : Merging c t total) where
 
 -- ---- how many are new
 
-pub lacks-not : (s : List ℕ) (n a i : ℕ) → Looked s n a (At i) → LacksOne s n a 0
+pub lacks-not : (s : List ℕ) (n a i : ℕ) → Looked s n a (Ok i) → LacksOne s n a 0
 unfolding has
 lacks-not s n a i h = record { is = λ v. ap (λ f. cond (has_at f) 0 1) (h.is v); one = omega arith }
 
-pub lacks_one : (s : List ℕ) (n a i : ℕ) → Looked s n a (Absent i) → LacksOne s n a 1
+pub lacks_one : (s : List ℕ) (n a i : ℕ) → Looked s n a (Err i) → LacksOne s n a 1
 unfolding has
 lacks_one s n a i h = record { is = λ v. ap (λ f. cond (has_at f) 0 1) (h.is v); one = omega arith }
 

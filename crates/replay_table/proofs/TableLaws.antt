@@ -11,7 +11,7 @@ use lib.Dec.{eqb, ltb, leb}
 use Rattle.choices.specs.Choice.{cond}
 use Rattle.machine.specs.Ram.{Cells, cells, at, absent, find, held, has, stored, place_of, falls_of}
 use Rattle.machine_ram.specs.RamView.{Room, Stored}
-use Rattle.machine_ram.proofs.RamView.{read_at_lem, write-at, falls_none}
+use Rattle.machine_ram.proofs.RamView.{read_at_lem, write-at}
 use Rattle.machine.proofs.RamLaws.{Rising, rises_ascending, place_is, held-stored, has-stored, stored-count, stored_addresses}
 use Rattle.machine_ram.proofs.Order.{has_there}
 use Rattle.replay_table.specs.Merge.{Sorted, stored_all, lacked, Merging, Merged}
@@ -62,7 +62,8 @@ pub sorted_by : (c : Cells) → c.count ≤ length c.addresses → length c.addr
 sorted_by c h p f = record { usable = record { ordered = record { within = h; ascending = f }; values = omega arith }; pair = p }
 
 pub sorted_none : (s v : List ℕ) → length s ≡ length v → Sorted (cells 0 s v)
-sorted_none s v p = sorted_by (cells 0 s v) (omega arith) p (falls_none s)
+unfolding falls_of
+sorted_none s v p = sorted_by (cells 0 s v) (omega arith) p refl
 
 stored-few : (c : Cells) (a v : ℕ) → (stored c a v).count ≤ c.count + 1
 stored-few c a v = rw (stored-count c a v) (go (has c a))

@@ -1,14 +1,10 @@
--- The lent cells as the definitions' cells.
+-- What calls leave of lent cells.
 use Rattle.std.specs.Prelude.{◌≡◌, length}
-use Rattle.machine.specs.Ram.{Cells, cells}
-use Rattle.replay_table.specs.declared.cells.Cells.{Cells as LentCells}
+use Rattle.machine_ram.specs.declared.ram_mut.RamMut.{RamMut}
 use Rattle.replay_table.specs.declared.table.Table.{Table as LentTable}
 
-abbrev pub cells_at : LentCells → Cells
-cells_at c = cells c.count c.addresses.now c.values.now
-
 -- the same two slices, as long as before
-pub record Kept (b c : LentCells) : Type 0 where
+pub record Kept (b c : RamMut) : Type 0 where
   pub addresses : c.addresses.ghost_name ≡ b.addresses.ghost_name
   pub values : c.values.ghost_name ≡ b.values.ghost_name
   pub room : length c.addresses.now ≡ length b.addresses.now
@@ -20,6 +16,6 @@ pub record KeptTable (t u : LentTable) : Type 0 where
   pub late : Kept t.late u.late
 
 -- the same words in both
-pub record Alike (b c : LentCells) : Type 0 where
+pub record Alike (b c : RamMut) : Type 0 where
   pub addresses : c.addresses.now ≡ b.addresses.now
   pub values : c.values.now ≡ b.values.now

@@ -24,7 +24,7 @@ fn top(addresses: &[u64], values: &[u64], i: usize, keys: &[u64], vals: &[u64], 
         let address = addresses[i - 1];
         if key < address {
             return Taken {
-                address: address,
+                address,
                 value: values[i - 1],
                 own: i - 1,
                 new: j,
@@ -33,7 +33,7 @@ fn top(addresses: &[u64], values: &[u64], i: usize, keys: &[u64], vals: &[u64], 
         if address == key {
             return Taken {
                 address: key,
-                value: value,
+                value,
                 own: i - 1,
                 new: j - 1,
             };
@@ -41,15 +41,15 @@ fn top(addresses: &[u64], values: &[u64], i: usize, keys: &[u64], vals: &[u64], 
     }
     Taken {
         address: key,
-        value: value,
+        value,
         own: i,
         new: j - 1,
     }
 }
 
-// Brings n cells into those of two slices, which are `total` then. Slices and not Cells, which they are not while half is merged. The places are counted by hand,
-// since no iterator goes down one slice while it writes to places above.
-pub fn merge(
+// Brings n cells into those of two slices, which are `total` then. Slices and not Cells, whose pointers are loaded anew for each cell: 1.9
+// ns and not 1.4. The places are counted by hand, since no iterator goes down one slice while it writes to places above.
+pub fn merge_slices(
     addresses: &mut [u64],
     values: &mut [u64],
     count: usize,

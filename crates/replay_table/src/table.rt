@@ -5,10 +5,10 @@ ghost use Rattle.machine.specs.Ram.{has, held};
 ghost use Rattle.replay_table.specs.Merge.{Sorted, Merged};
 ghost use Rattle.replay_table.specs.Table.{seen, Paired, Puts, Makes};
 ghost use Rattle.replay_table.specs.TableView.{Waits};
-ghost use Rattle.replay_table.specs.LentView.{cells_at, KeptTable, Alike};
+ghost use Rattle.replay_table.specs.LentView.{KeptTable, Alike};
+ghost use Rattle.machine_ram.specs.LentCells.{cells_of_mut};
 
-use crate::cells::Cells;
-use machine_ram::ram::Found;
+use crate::cells::{Cells, merge};
 
 // Most cells stand in the table's own; the latest in a few beside, where a new cell moves few, and which are merged into the others. What its
 // slices must be stands in clauses and not in ghost fields, which would ask the room of a group at each call, and have to hold within a merge.
@@ -34,39 +34,39 @@ impl Table<'_> {
 
     // A late cell's, else the opening's.
     fn late_word(&self, opening: &Cells<'_>, address: u64) -> u64
-        requires { Sorted (cells_at self.now.late) × Sorted (cells_at opening.now) }
-        ensures { result ≡ cond (has (cells_at self.now.late) address) (held (cells_at self.now.late) address) (held (cells_at opening.now) address) }
+        requires { Sorted (cells_of_mut self.now.late) × Sorted (cells_of_mut opening.now) }
+        ensures { result ≡ cond (has (cells_of_mut self.now.late) address) (held (cells_of_mut self.now.late) address) (held (cells_of_mut opening.now) address) }
     {
         match self.late.find(address) {
-            Found::At(i) => self.late.values[i],
-            Found::Absent(_) => opening.read(address),
+            Ok(i) => self.late.values[i],
+            Err(_) => opening.read(address),
         }
     }
 
     // The table's, else a late cell's, else the opening's.
     pub fn word_at(&self, opening: &Cells<'_>, address: u64) -> u64
-        requires { Paired (cells_at self.now.cells) (cells_at self.now.late) × Sorted (cells_at opening.now) }
-        ensures { result ≡ seen (cells_at self.now.cells) (cells_at self.now.late) address (held (cells_at opening.now) address) }
+        requires { Paired (cells_of_mut self.now.cells) (cells_of_mut self.now.late) × Sorted (cells_of_mut opening.now) }
+        ensures { result ≡ seen (cells_of_mut self.now.cells) (cells_of_mut self.now.late) address (held (cells_of_mut opening.now) address) }
     {
         match self.cells.find(address) {
-            Found::At(i) => self.cells.values[i],
-            Found::Absent(_) => self.late_word(opening, address),
+            Ok(i) => self.cells.values[i],
+            Err(_) => self.late_word(opening, address),
         }
     }
 
     // ---- a write
 
     pub fn put(&mut self, address: u64, value: u64)
-        requires { Paired (cells_at self.old.cells) (cells_at self.old.late) × (self.old.late.count < length self.old.late.addresses.now) }
+        requires { Paired (cells_of_mut self.old.cells) (cells_of_mut self.old.late) × (self.old.late.count < length self.old.late.addresses.now) }
         ensures count { self.new.cells.count ≡ self.old.cells.count }
-        ensures puts { Puts (cells_at self.old.cells) (cells_at self.old.late) address value (cells_at self.new.cells) (cells_at self.new.late) }
+        ensures puts { Puts (cells_of_mut self.old.cells) (cells_of_mut self.old.late) address value (cells_of_mut self.new.cells) (cells_of_mut self.new.late) }
         ensures kept { KeptTable self.old self.new }
     {
         match self.cells.find(address) {
-            Found::At(i) => {
+            Ok(i) => {
                 self.cells.values[i] = value;
             }
-            Found::Absent(_) => {
+            Err(_) => {
                 self.late.write(address, value);
             }
         }
@@ -77,7 +77,7 @@ impl Table<'_> {
     // Whether there is room for a late cell. The late ones are merged when they are many beside the table's, so that most
     // addresses are found at the first look; any bound is right.
     fn waits(&self) -> bool
-        requires { Paired (cells_at self.now.cells) (cells_at self.now.late) }
+        requires { Paired (cells_of_mut self.now.cells) (cells_of_mut self.now.late) }
         ensures { Waits self.now.cells.count self.now.late.count (length self.now.cells.addresses.now) (length self.now.late.addresses.now) result }
     {
         let used = self.cells.count;
@@ -93,8 +93,8 @@ impl Table<'_> {
 
     // The late cells merged into the table.
     pub fn settle(&mut self)
-        requires { Paired (cells_at self.old.cells) (cells_at self.old.late) }
-        ensures merged { Merged (cells_at self.old.cells) (cells_at self.old.late) (cells_at self.new.cells) }
+        requires { Paired (cells_of_mut self.old.cells) (cells_of_mut self.old.late) }
+        ensures merged { Merged (cells_of_mut self.old.cells) (cells_of_mut self.old.late) (cells_of_mut self.new.cells) }
         ensures count { self.new.cells.count ≡ self.old.cells.count + self.old.late.count }
         ensures late { self.new.late.count ≡ 0 }
         ensures alike { Alike self.old.late self.new.late }
@@ -103,14 +103,14 @@ impl Table<'_> {
         let most = self.cells.addresses.len();
         let total = self.cells.count + self.late.count;
         prove!(total <= most);
-        self.cells.merge(&self.late, total);
+        merge(&mut self.cells, &self.late, total);
         self.late.count = 0;
     }
 
     // Room by merging; where the table is full then, only its lower half is kept, and the group ends before the rest. Gives where it ends.
     fn make_more(&mut self, hi: u64) -> u64
-        requires { Paired (cells_at self.old.cells) (cells_at self.old.late) × (0 < length self.old.cells.addresses.now) × Waits self.old.cells.count self.old.late.count (length self.old.cells.addresses.now) (length self.old.late.addresses.now) False }
-        ensures makes { Makes (cells_at self.old.cells) (cells_at self.old.late) hi (cells_at self.new.cells) self.new.late.count result }
+        requires { Paired (cells_of_mut self.old.cells) (cells_of_mut self.old.late) × (0 < length self.old.cells.addresses.now) × Waits self.old.cells.count self.old.late.count (length self.old.cells.addresses.now) (length self.old.late.addresses.now) False }
+        ensures makes { Makes (cells_of_mut self.old.cells) (cells_of_mut self.old.late) hi (cells_of_mut self.new.cells) self.new.late.count result }
         ensures alike { Alike self.old.late self.new.late }
         ensures kept { KeptTable self.old self.new }
     {
@@ -125,8 +125,8 @@ impl Table<'_> {
 
     // Room for one late cell more, and for all of them in the table; gives where the group ends.
     pub fn make_room(&mut self, hi: u64) -> u64
-        requires { Paired (cells_at self.old.cells) (cells_at self.old.late) × (0 < length self.old.cells.addresses.now) }
-        ensures makes { Makes (cells_at self.old.cells) (cells_at self.old.late) hi (cells_at self.new.cells) self.new.late.count result }
+        requires { Paired (cells_of_mut self.old.cells) (cells_of_mut self.old.late) × (0 < length self.old.cells.addresses.now) }
+        ensures makes { Makes (cells_of_mut self.old.cells) (cells_of_mut self.old.late) hi (cells_of_mut self.new.cells) self.new.late.count result }
         ensures alike { Alike self.old.late self.new.late }
         ensures kept { KeptTable self.old self.new }
     {

@@ -5,6 +5,7 @@ ghost use Rattle.tip5.specs.Hash.{hash10_of, padded_of, block_of, hash_varlen_of
 use crate::sponge::{Domain, Sponge};
 use crate::words::first;
 
+// Ten words fill a block and are not padded, and they start in a domain of their own. So hash_varlen gives another digest of them.
 pub fn hash_10(input: [u64; 10]) -> [u64; 5]
     ensures { result ≡ hash10_of input }
 {

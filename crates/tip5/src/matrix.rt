@@ -29,6 +29,8 @@ fn coefficient(place: usize) -> u64
     u64::from(coefficient_table()[place])
 }
 
+// A function for each half, as field has one.
+
 pub fn lower_halves(s: &[u64; 16]) -> [u64; 16]
     ensures { (result ≡ halves_of false s.now) × (Below result (2 ^ 32)) }
 {
@@ -68,7 +70,8 @@ fn differences<const M: usize, const N: usize>(x: &[u64; M]) -> [u64; N]
     out
 }
 
-// The sum of the products of the coefficients from a place on with the numbers of x.
+// The sum of the products of the coefficients from a place on with the numbers of x. It stays below 2^64, so that it needs none of
+// field's products, which reduce each.
 fn dot<const N: usize>(at: usize, x: &[u64; N]) -> u64
     requires { (at + N ≤ 41) × (N ≤ 8) × (Below x.now (2 ^ 34)) }
     ensures { result ≡ dot_of at x.now N }
@@ -107,7 +110,8 @@ fn shift(at: usize, i: usize, s: u64) -> u64
     coefficient(at + i) * 0x2_0000_0000 + s * 0x2_0000
 }
 
-// Row i, from the row p over the sums and the row q over the differences.
+// Row i, from the row p over the sums and the row q over the differences. Row i + n has the same numbers with other signs: one function
+// for both would take a flag.
 fn low(p: u64, q: u64, o: u64, n: usize) -> u64
     requires { (n ≤ 8) × (Ready p q o n) }
     ensures { result ≡ low_of p q o n }
@@ -157,7 +161,8 @@ fn cyclic_8(x: &[u64; 8]) -> [u64; 8]
     joined(37, &dots(22, &e), &dots(15, &d), total(&d))
 }
 
-// The matrix times x, not reduced.
+// The matrix times x, not reduced: as cyclic_8 at twice the size, its rows over the sums made by cyclic_8. One function for both would
+// be handed a closure that makes these rows, with clauses.
 pub fn mds(x: &[u64; 16]) -> [u64; 16]
     requires { Below x.now (2 ^ 32) }
     ensures { (result ≡ product_of x.now) × (Below result (2 ^ 53)) }

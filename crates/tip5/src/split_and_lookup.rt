@@ -1,5 +1,5 @@
 // Split-and-lookup: the S-box of words 0 to 3, by a table on bytes.
-ghost use Rattle.std.specs.Prelude.{◌≡◌, ◌+◌, ◌*◌, ◌<◌, ◌^◌};
+ghost use Rattle.std.specs.Prelude.{◌≡◌, ◌*◌};
 ghost use Rattle.tip5.specs.SplitAndLookup.{lookup_of, lookups, looked_up, split_and_lookup};
 
 use field::base;

@@ -1,12 +1,10 @@
-use borrow.Author.Tests.{eq-eqb, ne_eqb}
+use Rattle.std.proofs.Common.{◌∙◌, ap}
+use Rattle.machine.specs.Effect.{puts}
 use Rattle.machine.specs.Arithmetic.{eq_of}
-use Prim.Native.Nat.{◌-◌}
+use Rattle.machine_effects.proofs.Effects.{acts_as}
+use Rattle.machine_arithmetic.proofs.Bits.{bit-of}
 use Rattle.machine_arithmetic.proofs.arithmetic.eq.Goals as goal
 
-pub returns-then-w : goal.returns-then-w
+pub returns : goal.returns
 unfolding eq_of
-returns-then-w c = rw (c.put1.ensures, eq-eqb _ _ c.if-w.true)
-
-pub returns-else-w : goal.returns-else-w
-unfolding eq_of
-returns-else-w c = rw (c.put1-else-w.ensures, ne_eqb _ _ c.if-w.false)
+returns c = acts_as _ (c.puts.ensures ∙ ap (puts 2) c.of.ensures.words) ∙ rw (c.from.ensures, bit-of, c.st.ensures, c.st-2.ensures)

@@ -1,7 +1,6 @@
 use Rattle.machine.specs.Arithmetic.{xx_mul_of}
-use Prim.Native.Nat.{◌-◌}
 use Rattle.machine_arithmetic.proofs.arithmetic.xx_mul.Goals as goal
 
 pub returns : goal.returns
 unfolding xx_mul_of
-returns c = rw (c.put3.ensures, c.mul-x.ensures, c.element-2.ensures.0, c.element.ensures.0)
+returns c = rw (c.put.ensures, c.mul.ensures, c.element.ensures.is, c.element-2.ensures.is)

@@ -1,17 +1,13 @@
-use Prim.Native.Nat.{◌^◌}
-use borrow.Author.Tests.{le-ltb}
+use Rattle.std.proofs.Common.{ℕ, ◌∙◌, [], ◌∷◌}
+use Rattle.machine.specs.Machine.{st}
+use Rattle.machine.specs.Effect.{acts, recording, u32}
 use Rattle.machine.specs.Bitwise.{and_of}
-use Rattle.machine_arithmetic.proofs.Bits.{low, both_digits, within}
+use Rattle.machine_arithmetic.proofs.Checked.{made_alike}
 use Rattle.machine_arithmetic.proofs.bitwise.and.Goals as goal
-
-pub returns-then-a-gt-U32_MAX : goal.returns-then-a-gt-U32_MAX
-unfolding and_of
-returns-then-a-gt-U32_MAX c = rw (c.not_u32.ensures, le-ltb _ (2 ^ 32) c.if-a-gt-U32_MAX.true)
-
-pub returns-then-b-gt-U32_MAX : goal.returns-then-b-gt-U32_MAX
-unfolding and_of
-returns-then-b-gt-U32_MAX c = rw (c.not_u32-then-b-gt-U32_MAX.ensures, within _ c.if-a-gt-U32_MAX.false, le-ltb _ (2 ^ 32) c.if-b-gt-U32_MAX.true)
 
 pub returns : goal.returns
 unfolding and_of
-returns c = rw (c.put1_u32.ensures, within _ c.if-a-gt-U32_MAX.false, within _ c.if-b-gt-U32_MAX.false, both_digits 32 _ _ (low _ c.if-a-gt-U32_MAX.false))
+returns c =
+    let w = c.args.w.now.words in
+    c.of_two.ensures.2
+    ∙ made_alike (st w 0) (st w 1) _ _ (λ (x : ℕ). acts (recording (u32 14 (st w 0) (st w 1) ∷ []) 2 (x ∷ []))) c.of_two.ensures.1

@@ -1,22 +1,50 @@
-use Prim.Native.Nat.{◌^◌}
-use borrow.Author.Tests.{eq-eqb, ne_eqb, le-ltb}
+use Rattle.std.proofs.Common.{◌≡◌, ◌∙◌, ap, sym, eq-eqb}
+use borrow.Author.Tests.{ne_eqb}
+use Rattle.machine.specs.Machine.{st}
+use Rattle.machine.specs.Effect.{recording}
 use Rattle.machine.specs.Refusal.{refusal_of}
 use Rattle.machine.specs.Bitwise.{div_mod_of}
-use Rattle.machine_arithmetic.proofs.Bits.{within}
+use Rattle.machine_effects.proofs.Effects.{acts_as, refuses-as}
+use Rattle.machine_arithmetic.proofs.Checked.{turned_down, goes_on}
 use Rattle.machine_arithmetic.proofs.bitwise.div_mod.Goals as goal
 
-pub returns-then-n-gt-U32_MAX : goal.returns-then-n-gt-U32_MAX
+pub returns-in_err-n : goal.returns-in_err-n
 unfolding div_mod_of
-returns-then-n-gt-U32_MAX c = rw (c.not_u32.ensures, le-ltb _ (2 ^ 32) c.if-n-gt-U32_MAX.true)
+returns-in_err-n c = turned_down _ _ _ _ _ c.st-above.ensures c.in_err-n.ensures c.from_residual.ensures.1
 
-pub returns-then-d-gt-U32_MAX : goal.returns-then-d-gt-U32_MAX
+pub returns-in_err-d : goal.returns-in_err-d
 unfolding div_mod_of
-returns-then-d-gt-U32_MAX c = rw (c.not_u32-then-d-gt-U32_MAX.ensures, within _ c.if-n-gt-U32_MAX.false, le-ltb _ (2 ^ 32) c.if-d-gt-U32_MAX.true)
+returns-in_err-d c =
+    turned_down _ _ _ _ _ c.st-below.ensures c.in_err-d.ensures c.from_residual-in_err-d.ensures.1
+    ∙ sym (goes_on _ _ _ _ c.st-above.ensures c.in_ok-n.ensures)
 
 pub returns-then-d-eq0 : goal.returns-then-d-eq0
 unfolding div_mod_of refusal_of
-returns-then-d-eq0 c = rw (c.refuse.ensures, within _ c.if-n-gt-U32_MAX.false, within _ c.if-d-gt-U32_MAX.false, eq-eqb _ _ c.if-d-eq0.true)
+returns-then-d-eq0 c =
+    let d : c.in_ok-d.d ≡ st c.args.w.now.words 1 = c.in_ok-d.ensures.0 ∙ c.st-below.ensures in
+    rw (
+      c.into.ensures,
+      refuses-as _,
+      goes_on _ _ _ _ c.st-above.ensures c.in_ok-n.ensures,
+      goes_on _ _ _ _ c.st-below.ensures c.in_ok-d.ensures,
+      ← d,
+      eq-eqb _ _ c.if-d-eq0.true,
+    )
 
-pub returns-else-d-eq0 : goal.returns-else-d-eq0
+pub returns : goal.returns
 unfolding div_mod_of
-returns-else-d-eq0 c = rw (c.divided.ensures, within _ c.if-n-gt-U32_MAX.false, within _ c.if-d-gt-U32_MAX.false, ne_eqb _ _ c.if-d-eq0.false)
+returns c =
+    let n : c.in_ok-n.n ≡ st c.args.w.now.words 0 = c.in_ok-n.ensures.0 ∙ c.st-above.ensures in
+    let d : c.in_ok-d.d ≡ st c.args.w.now.words 1 = c.in_ok-d.ensures.0 ∙ c.st-below.ensures in
+    acts_as _ (c.puts_u32.ensures ∙ ap (recording _ 2) c.of.ensures.words)
+    ∙ rw (
+      goes_on _ _ _ _ c.st-above.ensures c.in_ok-n.ensures,
+      goes_on _ _ _ _ c.st-below.ensures c.in_ok-d.ensures,
+      c.from-r.ensures,
+      c.from-q.ensures,
+      ← n,
+      ← d,
+      ← c.in_ok-n.ensures.0,
+      ← c.in_ok-d.ensures.0,
+      ne_eqb _ _ c.if-d-eq0.false,
+    )

@@ -1,5 +1,4 @@
-use native.Mathlib.Omega.{arith}
-use borrow.Author.Rules.{rules}
+use Rattle.std.proofs.Common.{rules, arith}
 use Rattle.machine_arithmetic.proofs.Bits.{highest_digits}
 use Rattle.machine_arithmetic.proofs.bitwise.highest.Goals as goal
 

@@ -1,13 +1,15 @@
-use Prim.Native.Nat.{◌^◌}
-use borrow.Author.Tests.{le-ltb}
+use Rattle.std.proofs.Common.{◌≡◌, ◌∙◌, sym}
+use Rattle.machine.specs.Machine.{st}
 use Rattle.machine.specs.Bitwise.{pow_of}
-use Rattle.machine_arithmetic.proofs.Bits.{within}
+use Rattle.machine_arithmetic.proofs.Checked.{turned_down, goes_on}
 use Rattle.machine_arithmetic.proofs.bitwise.pow.Goals as goal
 
-pub returns-then-e-gt-U32_MAX : goal.returns-then-e-gt-U32_MAX
+pub returns-in_err-e : goal.returns-in_err-e
 unfolding pow_of
-returns-then-e-gt-U32_MAX c = rw (c.not_u32.ensures, le-ltb _ (2 ^ 32) c.if-e-gt-U32_MAX.true)
+returns-in_err-e c = turned_down _ _ _ _ _ c.st.ensures c.in_err-e.ensures c.from_residual.ensures.1
 
 pub returns : goal.returns
 unfolding pow_of
-returns c = rw (c.put1_u32.ensures, c.mod_pow.ensures, within _ c.if-e-gt-U32_MAX.false)
+returns c =
+    let e : c.in_ok-e.e ≡ st c.args.w.now.words 1 = c.in_ok-e.ensures.0 ∙ c.st.ensures in
+    c.put.ensures ∙ rw (c.mod_pow.ensures, c.from-exponent.ensures, e, c.st-b.ensures) (sym (goes_on _ _ _ _ c.st.ensures c.in_ok-e.ensures))

@@ -1,85 +1,86 @@
 -- `machine_decide::decide::act` meets its contract: each arm is its instruction, and the rest is no instruction.
-use mathlib.Core.Path.{refl, sym, ap, ◌∙◌}
+use mathlib.Core.Path.{refl, sym, ap}
 use mathlib.Core.List.{[], ◌∷◌}
+use lib.Dec.{eqb}
+use borrow.Author.Tests.{eqb-true}
 use Rattle.machine.specs.Refusal.{refusal_of}
 use Rattle.machine.specs.Instruction.{Decoded, table, decode}
 use Rattle.machine.specs.Decide.{effect_of}
+use Rattle.machine_effects.specs.EffectView.{decision_of}
 use Rattle.machine_isa.proofs.TableLaws.{rest}
 use Rattle.machine.proofs.Words.{words_get_d}
 use Rattle.machine_decide.specs.DecideView.{hashes, act_in}
-use Rattle.machine_decide.proofs.DecideLaws.{words_allowed, words-few, place_allowed, hashing_in, undecoded}
+use Rattle.machine_decide.proofs.DecideLaws.{words_allowed, place_allowed, hashing_in, undecoded}
 use Rattle.machine_decide.proofs.decide.act.Goals as goal
 
 pub divine-requires : goal.divine-requires
 unfolding decode table
-divine-requires c = (words_allowed _ (rw c.in-9.is at c.requires.allowed), c.requires.secret)
+divine-requires c = words_allowed _ (rw c.in-9.is at c.requires.reliable.allowed)
 
 pub pick-requires : goal.pick-requires
 unfolding decode table
-pick-requires c = place_allowed _ (rw c.in-17.is at c.requires.allowed)
+pick-requires c = place_allowed _ (rw c.in-17.is at c.requires.reliable.allowed)
 
 pub place-requires : goal.place-requires
 unfolding decode table
-place-requires c = place_allowed _ (rw c.in-25.is at c.requires.allowed)
+place-requires c = place_allowed _ (rw c.in-25.is at c.requires.reliable.allowed)
 
 pub dup-requires : goal.dup-requires
 unfolding decode table
-dup-requires c = place_allowed _ (rw c.in-33.is at c.requires.allowed)
+dup-requires c = place_allowed _ (rw c.in-33.is at c.requires.reliable.allowed)
 
 pub swap-requires : goal.swap-requires
 unfolding decode table
-swap-requires c = place_allowed _ (rw c.in-41.is at c.requires.allowed)
+swap-requires c = place_allowed _ (rw c.in-41.is at c.requires.reliable.allowed)
 
 pub skiz-requires : goal.skiz-requires
-skiz-requires c = c.requires.inside
+skiz-requires c = c.requires.reliable.inside
 
 pub call-requires : goal.call-requires
-call-requires c = c.requires.pointer
+call-requires c = c.requires.reliable.pointer
 
 pub read_mem-requires : goal.read_mem-requires
 unfolding decode table
-read_mem-requires c =
-    let e = rw c.in-57.is at c.requires.allowed in
-    (record { usable = c.requires.usable; word = words_get_d 15 c.requires.words; few = words-few _ e }, words_allowed _ e)
+read_mem-requires c = (words_get_d 15 c.requires.reliable.words, words_allowed _ (rw c.in-57.is at c.requires.reliable.allowed))
 
 pub write_mem-requires : goal.write_mem-requires
 unfolding decode table
-write_mem-requires c = (c.requires.words, words_allowed _ (rw c.in-11.is at c.requires.allowed))
-
-pub add-requires : goal.add-requires
-add-requires c = c.requires.words
+write_mem-requires c = (c.requires.reliable.words, words_allowed _ (rw c.in-11.is at c.requires.reliable.allowed))
 
 pub addi-requires : goal.addi-requires
-addi-requires c = (c.requires.words, c.requires.argument)
+addi-requires c = (c.requires.reliable.words, c.requires.reliable.argument)
+
+pub add-requires : goal.add-requires
+add-requires c = c.requires.reliable.words
 
 pub invert-requires : goal.invert-requires
-invert-requires c = c.requires.words
+invert-requires c = c.requires.reliable.words
 
 pub xx_add-requires : goal.xx_add-requires
-xx_add-requires c = c.requires.words
+xx_add-requires c = c.requires.reliable.words
 
 pub xx_mul-requires : goal.xx_mul-requires
-xx_mul-requires c = c.requires.words
+xx_mul-requires c = c.requires.reliable.words
 
 pub x_invert-requires : goal.x_invert-requires
-x_invert-requires c = c.requires.words
+x_invert-requires c = c.requires.reliable.words
 
 pub xb_mul-requires : goal.xb_mul-requires
-xb_mul-requires c = c.requires.words
+xb_mul-requires c = c.requires.reliable.words
+
+pub xx_dot_step-requires : goal.xx_dot_step-requires
+xx_dot_step-requires c = c.requires.reliable.words
+
+pub xb_dot_step-requires : goal.xb_dot_step-requires
+xb_dot_step-requires c = c.requires.reliable.words
 
 pub read_io-requires : goal.read_io-requires
 unfolding decode table
-read_io-requires c = (words_allowed _ (rw c.in-73.is at c.requires.allowed), c.requires.public)
+read_io-requires c = words_allowed _ (rw c.in-73.is at c.requires.reliable.allowed)
 
 pub write_io-requires : goal.write_io-requires
 unfolding decode table
-write_io-requires c = words_allowed _ (rw c.in-19.is at c.requires.allowed)
-
-pub xx_dot_step-requires : goal.xx_dot_step-requires
-xx_dot_step-requires c = (c.requires.words, c.requires.usable)
-
-pub xb_dot_step-requires : goal.xb_dot_step-requires
-xb_dot_step-requires c = (c.requires.words, c.requires.usable)
+write_io-requires c = words_allowed _ (rw c.in-19.is at c.requires.reliable.allowed)
 
 pub returns-in-3 : goal.returns-in-3
 unfolding effect_of decode table
@@ -238,8 +239,8 @@ unfolding effect_of decode table
 returns-in-88 c = record { is = λ m s. rw (c.in-88.is, s.cells, s.top) c.xb_dot_step.ensures }
 
 pub returns-in_default : goal.returns-in_default
-unfolding effect_of decode table hashes refusal_of
+unfolding effect_of decode table hashes refusal_of decision_of
 returns-in_default c =
-    let a = c.args in
-    let e = undecoded a.opcode (rest hashing_in 1 ((88 ∷ []) ∷ (80 ∷ []) ∷ (19 ∷ []) ∷ (73 ∷ []) ∷ (82 ∷ []) ∷ (72 ∷ []) ∷ (74 ∷ []) ∷ (66 ∷ []) ∷ (28 ∷ []) ∷ (20 ∷ []) ∷ (30 ∷ []) ∷ (12 ∷ []) ∷ (22 ∷ []) ∷ (14 ∷ []) ∷ (6 ∷ []) ∷ (4 ∷ []) ∷ (58 ∷ []) ∷ (64 ∷ []) ∷ (50 ∷ []) ∷ (65 ∷ []) ∷ (42 ∷ []) ∷ (26 ∷ []) ∷ (11 ∷ []) ∷ (57 ∷ []) ∷ (10 ∷ []) ∷ (32 ∷ []) ∷ (24 ∷ []) ∷ (16 ∷ []) ∷ (49 ∷ []) ∷ (2 ∷ []) ∷ (8 ∷ []) ∷ (0 ∷ []) ∷ (41 ∷ []) ∷ (33 ∷ []) ∷ (25 ∷ []) ∷ (17 ∷ []) ∷ (9 ∷ []) ∷ (1 ∷ []) ∷ (3 ∷ []) ∷ []) table refl tt a.opcode c.in_default.in_default-own.rest) c.requires.plain in
-    record { is = λ m s. c.refuse.ensures ∙ sym (ap (λ (d : Decoded). act_in d a.argument m) e) }
+    let h = c.args.h.now in
+    let e = undecoded h.opcode (rest eqb eqb-true hashing_in 1 ((88 ∷ []) ∷ (80 ∷ []) ∷ (19 ∷ []) ∷ (73 ∷ []) ∷ (82 ∷ []) ∷ (72 ∷ []) ∷ (74 ∷ []) ∷ (66 ∷ []) ∷ (28 ∷ []) ∷ (20 ∷ []) ∷ (30 ∷ []) ∷ (12 ∷ []) ∷ (22 ∷ []) ∷ (14 ∷ []) ∷ (6 ∷ []) ∷ (4 ∷ []) ∷ (58 ∷ []) ∷ (64 ∷ []) ∷ (50 ∷ []) ∷ (65 ∷ []) ∷ (42 ∷ []) ∷ (26 ∷ []) ∷ (11 ∷ []) ∷ (57 ∷ []) ∷ (10 ∷ []) ∷ (32 ∷ []) ∷ (24 ∷ []) ∷ (16 ∷ []) ∷ (49 ∷ []) ∷ (2 ∷ []) ∷ (8 ∷ []) ∷ (0 ∷ []) ∷ (41 ∷ []) ∷ (33 ∷ []) ∷ (25 ∷ []) ∷ (17 ∷ []) ∷ (9 ∷ []) ∷ (1 ∷ []) ∷ (3 ∷ []) ∷ []) table refl tt h.opcode c.in_default.in_default-own.rest) c.requires.plain in
+    record { is = λ m s. sym (ap (λ (d : Decoded). act_in d h.argument m) e) }

@@ -1,8 +1,13 @@
-use Rattle.machine_decide.proofs.DecideLaws.{hash-reliable, hash-shows}
+use Rattle.std.proofs.Common.{refl}
 use Rattle.machine_decide.proofs.decide.hashing.Goals as goal
 
-pub act_hashing-requires : goal.act_hashing-requires
-act_hashing-requires c = rw c.top-w.ensures (hash-reliable c.requires)
+pub act_hashing-requires-clause-reliable : goal.act_hashing-requires-clause-reliable
+act_hashing-requires-clause-reliable c = c.hand_over-h.ensures.reliable
+
+pub act_hashing-requires-clause-hashing : goal.act_hashing-requires-clause-hashing
+act_hashing-requires-clause-hashing c = rw (← c.hand_over-h.ensures.shows.opcode) c.requires.hashing
 
 pub returns : goal.returns
-returns c = record { is = λ n a u x from to o. c.act_hashing.ensures.is n _ (rw c.top-w.ensures (hash-shows _ _ _ _ _ _ a u x from to o)) }
+returns c =
+    let s = c.hand_over-h.ensures.shows in
+    rw (s.opcode, s.argument) (c.act_hashing.ensures.is _ _ s refl)

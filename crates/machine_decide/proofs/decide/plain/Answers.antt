@@ -1,8 +1,12 @@
-use Rattle.machine_decide.proofs.DecideLaws.{plain-reliable, plain-shows}
 use Rattle.machine_decide.proofs.decide.plain.Goals as goal
 
-pub act-requires : goal.act-requires
-act-requires c = rw (c.top-w.ensures, c.last-origin.ensures, c.last-destination.ensures) (plain-reliable c.requires)
+pub act-requires-clause-reliable : goal.act-requires-clause-reliable
+act-requires-clause-reliable c = c.hand_over-h.ensures.reliable
+
+pub act-requires-clause-plain : goal.act-requires-clause-plain
+act-requires-clause-plain c = rw (← c.hand_over-h.ensures.shows.opcode) c.requires.plain
 
 pub returns : goal.returns
-returns c = record { is = λ d o. c.act.ensures.is _ (rw (c.top-w.ensures, c.last-origin.ensures, c.last-destination.ensures) (plain-shows _ _ _ _ _ _ _ _ _ _ d o)) }
+returns c =
+    let s = c.hand_over-h.ensures.shows in
+    rw (s.opcode, s.argument) (c.act.ensures.is _ s)

@@ -10,24 +10,24 @@ pub returns-then-state : goal.returns-then-state
 unfolding place_b
 returns-then-state c = rw c.if-state.true
 
-pub returns-then-at-opcodes : goal.returns-then-at-opcodes
+pub returns-then-at-code : goal.returns-then-at-code
 unfolding place_b
-returns-then-at-opcodes c = rw (c.if-state.false, le-ltb _ _ c.if-at-opcodes.true)
+returns-then-at-code c = rw (c.if-state.false, le-ltb _ _ c.if-at-code.true)
 
 pub returns-then-state-grown : goal.returns-then-state-grown
-returns-then-state-grown c = b_here _ _ _ c.if-state.false c.if-at-opcodes.false (shallow-is _ _ _ c.grown-grown.ensures c.shrunk-shrunk.ensures c.if-state-grown.true)
+returns-then-state-grown c = b_here _ _ _ c.if-state.false c.if-at-code.false (shallow-is _ _ _ c.grown-grown.ensures c.shrunk-shrunk.ensures c.if-state-grown.true)
 
 pub returns-else-state-grown : goal.returns-else-state-grown
-returns-else-state-grown c = b_here _ _ _ c.if-state.false c.if-at-opcodes.false (shallow-not _ _ _ c.grown-grown.ensures c.shrunk-shrunk.ensures c.if-state-grown.false)
+returns-else-state-grown c = b_here _ _ _ c.if-state.false c.if-at-code.false (shallow-not _ _ _ c.grown-grown.ensures c.shrunk-shrunk.ensures c.if-state-grown.false)
 
 pub overflow_add-state : goal.overflow_add-state
 overflow_add-state c =
     let a = c.args in
-    let n = words_get_d a.state.pointer c.requires.words in
-    omega (arith, c.requires.depth, c.grown-grown.ensures, grown_few (get_or a.opcodes.now a.state.pointer 0) (get_or a.arguments.now a.state.pointer 0), n)
+    let n = words_get_d a.state.now.pointer c.requires.words in
+    omega (arith, c.requires.depth, c.grown-grown.ensures, grown_few (get_or a.code.now.opcodes.now a.state.now.pointer 0) (get_or a.code.now.arguments.now a.state.now.pointer 0), n)
 
 pub overflow_add-shrunk : goal.overflow_add-shrunk
 overflow_add-shrunk c =
     let a = c.args in
-    let n = words_get_d a.state.pointer c.requires.words in
-    omega (arith, c.shrunk-shrunk.ensures, shrunk_few (get_or a.opcodes.now a.state.pointer 0) (get_or a.arguments.now a.state.pointer 0), n)
+    let n = words_get_d a.state.now.pointer c.requires.words in
+    omega (arith, c.shrunk-shrunk.ensures, shrunk_few (get_or a.code.now.opcodes.now a.state.now.pointer 0) (get_or a.code.now.arguments.now a.state.now.pointer 0), n)

@@ -1,12 +1,15 @@
-use borrow.Author.Tests.{lt-ltb, le-ltb}
 use Rattle.machine.specs.Refusal.{refusal_of}
 use Rattle.machine.specs.Control.{recurse_of}
+use Rattle.machine_effects.specs.EffectView.{effect_of}
+use Rattle.machine_effects.proofs.Effects.{acts_as, exits, no-entry}
 use Rattle.machine_effects.proofs.control.recurse.Goals as goal
 
-pub returns-then-jumps-gt0 : goal.returns-then-jumps-gt0
-unfolding recurse_of
-returns-then-jumps-gt0 c = rw (c.go_to.ensures, lt-ltb _ _ c.if-jumps-gt0.true)
-
-pub returns-else-jumps-gt0 : goal.returns-else-jumps-gt0
+pub returns-in_err-entry : goal.returns-in_err-entry
 unfolding recurse_of refusal_of
-returns-else-jumps-gt0 c = rw (c.refuse.ensures, le-ltb _ _ c.if-jumps-gt0.false)
+returns-in_err-entry c =
+    let n = no-entry c.args.top _ c.in_err-entry.ensures.value in
+    rw (exits _ c.from_residual.result c.from_residual.ensures.1, n.0, n.1)
+
+pub returns : goal.returns
+unfolding recurse_of effect_of
+returns c = rw c.in_ok-entry.ensures.ok_part (acts_as _ c.goes.ensures)

@@ -1,19 +1,18 @@
+use Rattle.std.proofs.Common.{ap, ◌∙◌}
 use borrow.Author.Tests.{lt-ltb, le-ltb}
-use lib.ListN.{length-drop}
+use Rattle.machine.specs.Effect.{Effect, puts}
 use Rattle.machine.specs.Refusal.{refusal_of}
 use Rattle.machine.specs.InputOutput.{read_io_of}
+use Rattle.machine_effects.specs.EffectView.{effect_of}
+use Rattle.machine_effects.proofs.Effects.{acts_as, refuses-as}
 use Rattle.machine_effects.proofs.input_output.read_io.Goals as goal
 
-pub returns-then-left-n : goal.returns-then-left-n
-unfolding read_io_of refusal_of
-returns-then-left-n c =
-    let a = c.args in
-    let l = length-drop a.taken a.public.now in
-    rw (c.refuse.ensures, l, lt-ltb _ _ c.if-left-n.true)
+pub returns-in-Some : goal.returns-in-Some
+unfolding read_io_of effect_of
+returns-in-Some c =
+    acts_as _ (ap {A = Effect} (λ e. record e { publics = c.args.n }) (c.puts.ensures ∙ ap (puts 0) c.in-Some.ensures.1))
+    ∙ rw (le-ltb _ _ c.in-Some.ensures.0)
 
-pub returns-else-left-n : goal.returns-else-left-n
-unfolding read_io_of
-returns-else-left-n c =
-    let a = c.args in
-    let l = length-drop a.taken a.public.now in
-    rw (c.take_public.ensures, c.words_from.ensures, l, le-ltb _ _ c.if-left-n.false)
+pub returns-in-None : goal.returns-in-None
+unfolding read_io_of refusal_of
+returns-in-None c = rw (c.into.ensures, refuses-as _, lt-ltb _ _ c.in-None.ensures)

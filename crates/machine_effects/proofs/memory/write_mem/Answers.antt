@@ -1,12 +1,13 @@
-use Rattle.machine_effects.specs.EffectView.{accesses_from}
+use Rattle.std.proofs.Common.{◌∙◌}
 use Rattle.machine.specs.Memory.{write_mem_of}
 use Rattle.machine.proofs.Words.{words_get_d}
+use Rattle.machine_effects.proofs.Effects.{acts_as}
 use Rattle.machine_effects.proofs.memory.write_mem.Goals as goal
 
-pub writes-a-requires : goal.writes-a-requires
-writes-a-requires c = (words_get_d 15 c.requires.0, c.requires.1)
+pub write_row-row-requires : goal.write_row-row-requires
+write_row-row-requires c = rw c.st.ensures (words_get_d 15 c.requires.0, c.requires.1)
 
 pub returns : goal.returns
-unfolding write_mem_of accesses_from
+unfolding write_mem_of
 returns c =
-    rw (c.puts_ram.ensures, c.writes-a.ensures.writes, c.writes-a.ensures.next)
+    acts_as _ c.puts_ram.ensures ∙ rw (c.of.ensures.words, c.write_row-row.ensures.writes, c.write_row-row.ensures.next, c.st.ensures)

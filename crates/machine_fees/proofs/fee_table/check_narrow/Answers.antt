@@ -10,7 +10,7 @@ loop-fee-init c = refl
 
 pub returns-in_err-check_fee : goal.returns-in_err-check_fee
 returns-in_err-check_fee c =
-    handed_on _ _ _ c.from_residual.ensures.1 (wide_found _ _ _ _ c.loop-fee-test.true c.loop-fee.invariant c.in_err-check_fee.ensures (number_a_some _))
+    handed_on _ _ _ _ _ c.from_residual.ensures.1 (wide_found _ _ _ _ c.loop-fee-test.true c.loop-fee.invariant c.in_err-check_fee.ensures (number_a_some _))
 
 pub loop-fee-preserved : goal.loop-fee-preserved
 loop-fee-preserved c = wide_more _ _ c.loop-fee.invariant c.in_ok-check_fee.ensures

@@ -1,4 +1,4 @@
-use mathlib.Core.Path.{refl}
+use Rattle.std.proofs.Common.{refl}
 use Rattle.machine.specs.Hashing.{reversed}
 use Rattle.machine_hashing.proofs.hashing.rate.Goals as goal
 

@@ -1,4 +1,4 @@
-use mathlib.Core.Path.{refl}
+use Rattle.std.proofs.Common.{refl}
 use Rattle.machine.specs.Hashing.{from_top}
 use Rattle.machine_hashing.proofs.hashing.top_first.Goals as goal
 

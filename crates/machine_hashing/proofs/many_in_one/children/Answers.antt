@@ -1,4 +1,5 @@
-use borrow.Author.Tests.{eq-eqb, ne_eqb}
+use Rattle.std.proofs.Common.{eq-eqb}
+use borrow.Author.Tests.{ne_eqb}
 use Rattle.machine.specs.ManyInOne.{siblings}
 use Rattle.machine_hashing.proofs.many_in_one.children.Goals as goal
 

@@ -1,25 +1,22 @@
-use Prim.Native.Nat.{◌*◌, ◌^◌}
+use Rattle.std.proofs.Common.{◌∙◌}
 use borrow.Author.Tests.{lt-ltb, le-ltb}
-use lib.ListN.{length-drop}
 use Rattle.machine.specs.Refusal.{refusal_of}
 use Rattle.machine.specs.ManyInOne.{merkle_step_of}
-use Rattle.machine_arithmetic.proofs.Bits.{within}
+use Rattle.machine_arithmetic.proofs.Checked.{goes_on}
+use Rattle.machine_hashing.proofs.HashedLaws.{hashed-acts, hashed-refuses, turned_down}
 use Rattle.machine_hashing.proofs.many_in_one.merkle_step.Goals as goal
 
-pub returns-then-i-gt-U32_MAX : goal.returns-then-i-gt-U32_MAX
-unfolding merkle_step_of refusal_of
-returns-then-i-gt-U32_MAX c = rw (c.refused.ensures, le-ltb _ (2 ^ 32) c.if-i-gt-U32_MAX.true)
+pub returns-in_err-_index : goal.returns-in_err-_index
+unfolding merkle_step_of
+returns-in_err-_index c = turned_down _ _ _ _ _ c.st.ensures c.in_err-_index.ensures c.from_residual.ensures.1
 
-pub returns-then-digests-at-lt5 : goal.returns-then-digests-at-lt5
+pub returns-then-left-lt5 : goal.returns-then-left-lt5
 unfolding merkle_step_of refusal_of
-returns-then-digests-at-lt5 c =
-    let a = c.args in
-    let l = length-drop (5 * a.taken) a.digests.now in
-    rw (c.refused-then-digests-at-lt5.ensures, within _ c.if-i-gt-U32_MAX.false, l, lt-ltb _ _ c.if-digests-at-lt5.true)
+returns-then-left-lt5 c =
+    rw (c.into.ensures, hashed-refuses _, goes_on _ _ _ _ c.st.ensures c.in_ok-_index.ensures, lt-ltb _ _ c.if-left-lt5.true)
 
 pub returns : goal.returns
 unfolding merkle_step_of
 returns c =
-    let a = c.args in
-    let l = length-drop (5 * a.taken) a.digests.now in
-    rw (c.stepped.ensures, c.merkle_trace.ensures, c.words_from.ensures, within _ c.if-i-gt-U32_MAX.false, l, le-ltb _ _ c.if-digests-at-lt5.false)
+    hashed-acts _ c.stepped.ensures
+    ∙ rw (c.merkle_trace.ensures, goes_on _ _ _ _ c.st.ensures c.in_ok-_index.ensures, le-ltb _ _ c.if-left-lt5.false)

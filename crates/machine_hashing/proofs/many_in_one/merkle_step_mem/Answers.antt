@@ -1,16 +1,22 @@
-use mathlib.Core.Path.{refl}
-use Prim.Native.Nat.{◌^◌}
-use borrow.Author.Tests.{le-ltb}
-use Rattle.machine.specs.Refusal.{refusal_of}
+use Rattle.std.proofs.Common.{◌∙◌, refl}
 use Rattle.machine.specs.ManyInOne.{merkle_stepped_mem, merkle_step_mem_of}
-use Rattle.machine_arithmetic.proofs.Bits.{within}
+use Rattle.machine_arithmetic.proofs.Checked.{goes_on}
+use Rattle.machine_hashing.proofs.HashedLaws.{hashed-acts, turned_down}
 use Rattle.machine_hashing.proofs.many_in_one.merkle_step_mem.Goals as goal
 
-pub returns-then-i-gt-U32_MAX : goal.returns-then-i-gt-U32_MAX
-unfolding merkle_step_mem_of refusal_of
-returns-then-i-gt-U32_MAX c = rw (c.refused.ensures, le-ltb _ (2 ^ 32) c.if-i-gt-U32_MAX.true)
+pub returns-in_err-_index : goal.returns-in_err-_index
+unfolding merkle_step_mem_of
+returns-in_err-_index c = turned_down _ _ _ _ _ c.st.ensures c.in_err-_index.ensures c.from_residual.ensures.1
 
 pub returns : goal.returns
 unfolding merkle_step_mem_of merkle_stepped_mem
 returns c =
-    rw (c.stepped_mem.ensures, c.merkle_trace.ensures, c.read_up-a.ensures.words, c.read_up-a.ensures.reads, c.read_up-a.ensures.next 5 refl, within _ c.if-i-gt-U32_MAX.false)
+    hashed-acts _ c.stepped_mem.ensures
+    ∙ rw (
+      c.merkle_trace-t.ensures,
+      c.read_row-row.ensures.words,
+      c.read_row-row.ensures.reads,
+      c.read_row-row.ensures.next 5 refl,
+      c.st-2.ensures,
+      goes_on _ _ _ _ c.st.ensures c.in_ok-_index.ensures,
+    )

@@ -1,11 +1,16 @@
-use mathlib.Core.Path.{refl, sym}
+use Rattle.std.proofs.Common.{◌≡◌, ◌-◌, ◌*◌, length, take, drop, refl, sym, arith, length-drop}
+use Rattle.std.proofs.Math.Seq.{take_all}
 use Rattle.machine.proofs.OpStack.{top-words}
 use Rattle.machine_helpers.proofs.helper_variables.helpers.Goals as goal
 
-pub helpers_of-requires : goal.helpers_of-requires
-helpers_of-requires c =
-    record { slots = c.requires.slots; words = rw c.top.ensures (top-words c.args.state.depth c.requires.words); digests = c.requires.digests; usable = c.requires.usable }
+pub invariant_of-seen : goal.invariant_of-seen
+invariant_of-seen c =
+    record { words = rw c.of-top.ensures (top-words c.args.state.now.depth c.requires.words); slots = c.requires.slots }
 
 pub returns : goal.returns
 returns c =
-    record { is = λ u s o d w. c.helpers_of.ensures.is _ (record { top = sym c.top.ensures; pointer = refl; opcodes = refl; digests = refl; cells = refl }) refl }
+    let s = c.args.code.now.digests.now in
+    let n = 5 * c.args.state.now.digests in
+    let d = drop n s in
+    let e : take (length s - n) d ≡ d = take_all _ d (simp length-drop (omega arith)) in
+    c.helpers.ensures.is _ (record { top = sym c.of-top.ensures; pointer = refl; opcodes = refl; arguments = refl; digests = sym e; cells = refl })

@@ -1,14 +1,26 @@
 use native.Mathlib.Omega.{arith}
-use Rattle.machine_log.proofs.Logged.{clock_two, head_timed, head_plain, u32-written}
+use Rattle.machine_log.proofs.Logged.{clock_two, head_timed, head_plain, u32-written, number_put}
 use Rattle.machine_log.proofs.calls.u32_record.Goals as goal
 
-pub put8-requires-then-revision-eq2 : goal.put8-requires-then-revision-eq2
-put8-requires-then-revision-eq2 c = omega (arith, clock_two _ c.if-revision-eq2.true)
+pub put-requires-then-revision-eq2-3 : goal.put-requires-then-revision-eq2-3
+put-requires-then-revision-eq2-3 c = (omega arith, omega (arith, clock_two _ c.if-revision-eq2.true))
 
 pub returns-then-revision-eq2 : goal.returns-then-revision-eq2
 returns-then-revision-eq2 c =
-    u32-written _ _ 8 _ _ _ _ _ _ (head_timed _ _ 196628 _ _ _ c.if-revision-eq2.true c.put4.ensures c.put4-then-revision-eq2.ensures) c.put2.ensures c.put8.ensures c.put8-then-revision-eq2.ensures
+    let a = c.args in
+    u32-written _ _ 8 _ _ _ _ _ _
+    (head_timed _ _ 196628 _ _ _ c.if-revision-eq2.true
+    (number_put 4 458776 _ _ c.put.ensures c.to_le_bytes.ensures)
+    (number_put 4 a.clock _ _ c.put-then-revision-eq2.ensures c.to_le_bytes-then-revision-eq2.ensures))
+    c.put_opcode.ensures
+    (number_put 8 a.call.left _ _ c.put-then-revision-eq2-2.ensures c.to_le_bytes-then-revision-eq2-2.ensures)
+    (number_put 8 a.call.right _ _ c.put-then-revision-eq2-3.ensures c.to_le_bytes-then-revision-eq2-3.ensures)
 
 pub returns : goal.returns
 returns c =
-    u32-written _ _ 4 _ _ _ _ _ _ (head_plain _ _ 196628 _ _ c.if-revision-eq2.false c.put4-2.ensures) c.put2-2.ensures c.put8-2.ensures c.put8-3.ensures
+    let a = c.args in
+    u32-written _ _ 4 _ _ _ _ _ _
+    (head_plain _ _ 196628 _ _ c.if-revision-eq2.false (number_put 4 196628 _ _ c.put-2.ensures c.to_le_bytes-2.ensures))
+    c.put_opcode-2.ensures
+    (number_put 8 a.call.left _ _ c.put-3.ensures c.to_le_bytes-3.ensures)
+    (number_put 8 a.call.right _ _ c.put-4.ensures c.to_le_bytes-4.ensures)

@@ -9,8 +9,7 @@ returns-in_err-check_machine c = given_turned _ _ _ 6 _ c.in_err-check_machine.e
 pub helpers-requires : goal.helpers-requires
 helpers-requires c =
     let sixteen : length c.args.state.sponge.words ≡ 16 = search rules in
-    let h = sound-helpable _ (accepted_sound _ c.in_ok-check_machine.ensures sixteen (search rules)) in
-    record { slots = h.slots; deep = h.deep; used = h.used; words = h.words; digests = h.digests; usable = h.usable }
+    sound-helpable _ (accepted_sound _ c.in_ok-check_machine.ensures sixteen (search rules))
 
 pub returns : goal.returns
-returns c = given_is _ c.in_ok-check_machine.ensures 6 (c.helpers.ensures.is _ _ _ _ _)
+returns c = given_is _ c.in_ok-check_machine.ensures 6 c.helpers.ensures

@@ -1,3 +1,4 @@
+use Rattle.std.proofs.Common.{rules}
 use Rattle.machine_open.proofs.OpenLaws.{open_number, open_deep, open_took, open_kept}
 use Rattle.machine_open.proofs.open.checked.Goals as goal
 
@@ -10,4 +11,4 @@ open_stack-requires c = open_deep _ _ _ _ _ _ (open_number _ _ _ _ c.look.ensure
 
 pub returns-clause-opens : goal.returns-clause-opens
 returns-clause-opens c =
-    open_took _ _ _ _ _ _ (open_number _ _ _ _ c.look.ensures c.check_open-handed.ensures) c.in_ok-check_fees.ensures c.registers.ensures c.open_stack.ensures c.wipe.ensures c.wipe-2.ensures
+    open_took _ _ _ _ _ _ (open_number _ _ _ _ c.look.ensures c.check_open-handed.ensures) c.in_ok-check_fees.ensures c.registers.ensures c.open_stack.ensures (search rules) (search rules)

@@ -9,8 +9,7 @@ returns-in_err-check_machine c = given_turned _ _ _ 37 _ c.in_err-check_machine.
 pub write_row-requires : goal.write_row-requires
 write_row-requires c =
     let sixteen : length c.args.state.sponge.words ≡ 16 = search rules in
-    let h = sound-rowable _ (accepted_sound _ c.in_ok-check_machine.ensures sixteen (search rules)) in
-    (refl, record { slots = h.slots; deep = h.deep; used = h.used; words = h.words; digests = h.digests; usable = h.usable; origins = h.origins; destinations = h.destinations })
+    (refl, sound-rowable _ (accepted_sound _ c.in_ok-check_machine.ensures sixteen (search rules)))
 
 pub returns : goal.returns
-returns c = given_is _ c.in_ok-check_machine.ensures 37 (c.write_row.ensures.is _ _ _ _ refl)
+returns c = given_is _ c.in_ok-check_machine.ensures 37 c.write_row.ensures

@@ -1,10 +1,7 @@
-use mathlib.Core.Path.{◌≡◌}
-use Prim.Native.Nat.{◌-◌, ◌≤◌}
+use Rattle.std.proofs.Common.{◌≡◌, false}
 use Rattle.machine_perform.specs.PerformView.{among_of}
 use Rattle.machine_perform.proofs.limits.among.Given as goal
 
+-- none so far
 abbrev pub invariant-loop-i : goal.invariant-loop-i
-invariant-loop-i l = (l.i ≤ l.n) × (l.found ≡ among_of l.written l.from l.i l.address)
-
-abbrev pub decreases-loop-i : goal.decreases-loop-i
-decreases-loop-i l = l.n - l.i
+invariant-loop-i l = among_of l.writes l.i l.address ≡ false

@@ -1,5 +1,4 @@
 use Rattle.machine_perform.proofs.perform.moved.Goals as goal
 
 pub returns : goal.returns
-returns c =
-    rw (c.jumps_after-jumps.ensures, c.least-outputs.ensures, c.least-count.ensures)
+returns c = rw (c.jumps_after-jumps.ensures, c.as_slice.ensures, c.as_slice-2.ensures)

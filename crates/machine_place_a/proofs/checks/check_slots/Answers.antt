@@ -1,4 +1,4 @@
-use Rattle.std.proofs.Common.{rules, refl, arith}
+use Rattle.std.proofs.Common.{refl}
 use Rattle.machine.specs.PlaceA.{opcodes3, arguments4}
 use Rattle.machine.proofs.Refused.{handed_on, number_a_some}
 use Rattle.machine_place_a.proofs.ChecksLaws.{slots_found, opcodes_more, arguments_more, slots_end}
@@ -10,7 +10,7 @@ loop-i-init c = (refl, refl)
 
 pub returns-in_err-check_opcode : goal.returns-in_err-check_opcode
 returns-in_err-check_opcode c =
-    handed_on _ _ _ c.from_residual.ensures.1 (slots_found _ _ _ c.loop-i-test.true c.loop-i.invariant.0 c.in_err-check_opcode.ensures (number_a_some _))
+    handed_on _ _ _ _ _ c.from_residual.ensures.1 (slots_found _ _ _ c.loop-i-test.true c.loop-i.invariant.0 c.in_err-check_opcode.ensures (number_a_some _))
 
 pub loop-i-preserved : goal.loop-i-preserved
 loop-i-preserved c =

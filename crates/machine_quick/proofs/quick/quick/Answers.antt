@@ -1,27 +1,27 @@
-use native.Mathlib.Omega.{arith}
-use Rattle.machine_quick.proofs.QuickLaws.{quick_inside, quick_standing, quick_changing, quick_done, quick_none}
+use Rattle.std.proofs.Common.{◌∙◌, sym, arith}
+use Rattle.machine_quick.proofs.QuickLaws.{quick_stands, quick_changing, quick_done}
 use Rattle.machine_quick.proofs.quick.quick.Goals as goal
 
-pub returns-in-Err : goal.returns-in-Err
-returns-in-Err c = quick_none c.none.ensures
+pub place_b-requires : goal.place_b-requires
+place_b-requires c =
+    let s = c.requires.sound in
+    record { pair = s.code.slots; words = s.code.arguments; depth = omega (arith, s.op_stack.used, s.op_stack.few) }
 
-pub bounds-opcodes-state : goal.bounds-opcodes-state
-bounds-opcodes-state c = quick_inside c.requires c.in-Ok.ensures
+pub bounds-code-state : goal.bounds-code-state
+bounds-code-state c = (quick_stands c.requires c.in_default.ensures).inside
 
-pub plain-decided-requires : goal.plain-decided-requires
-plain-decided-requires c = quick_standing c.requires c.in-Ok.ensures
+pub hand_over-requires : goal.hand_over-requires
+hand_over-requires c = rw c.look.ensures (quick_stands c.requires c.in_default.ensures)
+
+pub act-requires : goal.act-requires
+act-requires c = c.hand_over.ensures.reliable
 
 pub change-requires : goal.change-requires
-change-requires c = quick_changing c.requires c.in-Ok.ensures c.plain-decided.ensures c.in-Acts.is
+change-requires c = quick_changing c.requires c.in_default.ensures (rw c.look.ensures at c.hand_over.ensures.shows) c.act.ensures c.in-Ok.is
 
-pub returns-in-Acts : goal.returns-in-Acts
-returns-in-Acts c = quick_done c.requires c.in-Ok.ensures c.plain-decided.ensures c.in-Acts.is c.change.ensures
+pub returns-in-Ok-clause-quicked : goal.returns-in-Ok-clause-quicked
+returns-in-Ok-clause-quicked c =
+    quick_done c.requires c.in_default.ensures (rw c.look.ensures at c.hand_over.ensures.shows) c.act.ensures c.in-Ok.is c.change.result _ c.change.ensures
 
-pub returns-in-Refuses : goal.returns-in-Refuses
-returns-in-Refuses c = quick_none c.none-in-Refuses.ensures
-
-pub returns-in-Drops : goal.returns-in-Drops
-returns-in-Drops c = quick_none c.none-in-Drops.ensures
-
-pub offset_bounds-opcodes-state : goal.offset_bounds-opcodes-state
-offset_bounds-opcodes-state c = omega (arith, quick_inside c.requires c.in-Ok.ensures, c.requires.sound.code.slots_few)
+pub offset_bounds-code-state : goal.offset_bounds-code-state
+offset_bounds-code-state c = omega (arith, (quick_stands c.requires c.in_default.ensures).inside, c.requires.sound.code.slots_few)

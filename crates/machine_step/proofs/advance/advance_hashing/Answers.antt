@@ -1,15 +1,19 @@
-use native.Mathlib.Omega.{arith}
-use Rattle.machine_step.proofs.AdvanceLaws.{way-resolving, way-roomy, way-advanced, hash-way}
+use Rattle.std.proofs.Common.{◌∙◌, sym, arith}
+use Rattle.machine_step.proofs.AdvanceLaws.{refused_hash, refused_advanced, acting_hash}
 use Rattle.machine_step.proofs.advance.advance_hashing.Goals as goal
 
-pub next-q-requires : goal.next-q-requires
-next-q-requires c = omega (arith, c.requires.inside, c.requires.standing.sound.code.slots_few)
+pub hashing-decided-requires-clause-on : goal.hashing-decided-requires-clause-on
+hashing-decided-requires-clause-on c = rw c.look.ensures (record { sound = c.requires.standing.sound; inside = c.requires.inside })
 
-pub resolve-moved-requires : goal.resolve-moved-requires
-resolve-moved-requires c = way-resolving c.requires.standing.sound (hash-way c.requires c.hashing-hashed.result (c.hashing-hashed.ensures.is _ _ _ _ _ _ _) c.next-q.ensures c.sponge_after-sponge.ensures)
+pub hashing-decided-requires-clause-hashing : goal.hashing-decided-requires-clause-hashing
+hashing-decided-requires-clause-hashing c = c.requires.way
 
-pub hashed-n-requires : goal.hashed-n-requires
-hashed-n-requires c = way-roomy c.requires.standing.sound (hash-way c.requires c.hashing-hashed.result (c.hashing-hashed.ensures.is _ _ _ _ _ _ _) c.next-q.ensures c.sponge_after-sponge.ensures) c.resolve-moved.result.answer c.asked-asked.ensures (c.resolve-moved.ensures.is _) c.requires.standing.room
+pub act-requires : goal.act-requires
+act-requires c = acting_hash c.requires _ (rw c.look.ensures at c.in-Ok.ensures) c.besides-besides.ensures c.sponge_behind-sponge.ensures
 
-pub returns : goal.returns
-returns c = way-advanced c.requires.standing.sound (hash-way c.requires c.hashing-hashed.result (c.hashing-hashed.ensures.is _ _ _ _ _ _ _) c.next-q.ensures c.sponge_after-sponge.ensures) c.resolve-moved.result.answer c.asked-asked.ensures (c.resolve-moved.ensures.is _) c.hashed-n.ensures
+pub refuse-requires : goal.refuse-requires
+refuse-requires c = omega (arith, c.requires.standing.sound.deep)
+
+pub returns-in-Err-clause-advanced : goal.returns-in-Err-clause-advanced
+returns-in-Err-clause-advanced c =
+    refused_advanced _ (c.requires.decides ∙ sym (rw c.look.ensures at c.in-Err.ensures) ∙ refused_hash _) c.refuse.ensures.refused

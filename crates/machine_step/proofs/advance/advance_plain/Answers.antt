@@ -1,15 +1,19 @@
-use native.Mathlib.Omega.{arith}
-use Rattle.machine_step.proofs.AdvanceLaws.{way-resolving, way-roomy, way-advanced, plain-way}
+use Rattle.std.proofs.Common.{◌∙◌, sym, arith}
+use Rattle.machine_step.proofs.AdvanceLaws.{refused_decision, refused_advanced, acting_plain}
 use Rattle.machine_step.proofs.advance.advance_plain.Goals as goal
 
-pub next-q-requires : goal.next-q-requires
-next-q-requires c = omega (arith, c.requires.inside, c.requires.standing.sound.code.slots_few)
+pub plain-decided-requires-clause-on : goal.plain-decided-requires-clause-on
+plain-decided-requires-clause-on c = rw c.look.ensures (record { sound = c.requires.standing.sound; inside = c.requires.inside })
 
-pub resolve-moved-requires : goal.resolve-moved-requires
-resolve-moved-requires c = way-resolving c.requires.standing.sound (plain-way c.requires c.plain-decided.result (c.plain-decided.ensures.is _ _) c.next-q.ensures)
+pub plain-decided-requires-clause-plain : goal.plain-decided-requires-clause-plain
+plain-decided-requires-clause-plain c = c.requires.way
 
-pub plain-n-requires : goal.plain-n-requires
-plain-n-requires c = way-roomy c.requires.standing.sound (plain-way c.requires c.plain-decided.result (c.plain-decided.ensures.is _ _) c.next-q.ensures) c.resolve-moved.result.answer c.asked-asked.ensures (c.resolve-moved.ensures.is _) c.requires.standing.room
+pub act-requires : goal.act-requires
+act-requires c = acting_plain c.requires _ (rw c.look.ensures at c.in-Ok.ensures)
 
-pub returns : goal.returns
-returns c = way-advanced c.requires.standing.sound (plain-way c.requires c.plain-decided.result (c.plain-decided.ensures.is _ _) c.next-q.ensures) c.resolve-moved.result.answer c.asked-asked.ensures (c.resolve-moved.ensures.is _) c.plain-n.ensures
+pub refuse-requires : goal.refuse-requires
+refuse-requires c = omega (arith, c.requires.standing.sound.deep)
+
+pub returns-in-Err-clause-advanced : goal.returns-in-Err-clause-advanced
+returns-in-Err-clause-advanced c =
+    refused_advanced _ (c.requires.decides ∙ sym (rw c.look.ensures at c.in-Err.ensures) ∙ refused_decision _) c.refuse.ensures.refused

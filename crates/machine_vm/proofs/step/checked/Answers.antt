@@ -9,7 +9,7 @@ advance-requires c =
     stands _ _ _ sixteen early (step_number _ _ _ c.look.ensures c.check_step-handed.ensures) c.in-Ok.ensures
 
 pub returns-in-Ok-clause-steps : goal.returns-in-Ok-clause-steps
-returns-in-Ok-clause-steps c = stepped _ _ _ (step_number _ _ _ c.look.ensures c.check_step-handed.ensures) c.in-Ok.ensures c.advance.ensures
+returns-in-Ok-clause-steps c = stepped _ _ _ (step_number _ _ _ c.look.ensures c.check_step-handed.ensures) c.in-Ok.ensures c.advance.ensures.advanced
 
 pub returns-in-Err-clause-steps : goal.returns-in-Err-clause-steps
 returns-in-Err-clause-steps c = step_turned _ _ _ (step_number _ _ _ c.look.ensures c.check_step-handed.ensures) c.in-Err.ensures

@@ -1,4 +1,4 @@
-use mathlib.Core.Path.{refl, sym}
+use Rattle.std.proofs.Common.{refl, sym, rules}
 use Rattle.replay_scan.proofs.ScanLaws.{fault_some}
 use Rattle.replay_calls.proofs.Deciding.{call-refused, opens, scans, call-wrong, call-right}
 use Rattle.replay_calls.proofs.QuietLaws.{scan_quiet}
@@ -14,7 +14,7 @@ by_table-requires c =
 pub returns-in-Err-clause-replayed : goal.returns-in-Err-clause-replayed
 returns-in-Err-clause-replayed c =
     let t = c.in-Err.ensures.rebuilds in
-    call-wrong _ _ _ _ _ _ _ _ (sym c.in_ok-check_replay.ensures) c.scan_log-scan.ensures t.decides _ refl _ (t.kept (fault_some c.in-Err.fault)) _ c.scan_log-scan.auto.words c.clear.ensures
+    call-wrong _ _ _ _ _ _ _ _ (sym c.in_ok-check_replay.ensures) c.scan_log-scan.ensures t.decides _ refl _ (t.kept (fault_some c.in-Err.fault)) _ c.scan_log-scan.auto.words (c.fill.ensures.after (search rules))
 
 pub returns-clause-replayed : goal.returns-clause-replayed
 returns-clause-replayed c =

@@ -1,8 +1,0 @@
-use Rattle.machine_effects.specs.EffectView.{u32s_of}
-use Rattle.machine_effects.specs.EffectView.{effect_of, accesses_from}
-use Prim.Native.Nat.{◌-◌}
-use Rattle.machine_effects.proofs.effect.puts_ram.Goals as goal
-
-pub returns : goal.returns
-unfolding effect_of u32s_of accesses_from
-returns c = rw (c.act.ensures, c.nothing-e.ensures)

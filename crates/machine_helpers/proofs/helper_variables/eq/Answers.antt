@@ -1,5 +1,0 @@
-use Rattle.machine.proofs.Words.{words_get_d}
-use Rattle.machine_helpers.proofs.helper_variables.eq.Goals as goal
-
-pub inverse_of_difference-requires : goal.inverse_of_difference-requires
-inverse_of_difference-requires c = (words_get_d 14 c.requires, words_get_d 15 c.requires)

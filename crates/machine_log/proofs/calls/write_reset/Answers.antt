@@ -1,9 +1,0 @@
-use mathlib.Core.Path.{refl}
-use native.Mathlib.Omega.{arith}
-use Rattle.machine_effects.specs.EffectView.{calls_of}
-use Rattle.machine_log.proofs.Logged.{wrote-more, reset-first}
-use Rattle.machine_log.proofs.calls.write_reset.Goals as goal
-
-pub returns : goal.returns
-returns c =
-    wrote-more (omega arith) (wrote-more (omega arith) (c.log_reset-next.ensures.any _) c.log_calls-then.ensures refl refl) (c.log_depth.ensures.any _) (reset-first c.args.revision c.args.clock (calls_of c.args.effect) _) refl
