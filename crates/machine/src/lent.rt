@@ -1,4 +1,5 @@
-// What is lent with each call, and goes from function to function as one.
+// What is lent with each call, and goes from function to function as one. Pairs, as opcodes and arguments, are two slices: C lends
+// them so.
 ghost use Rattle.std.specs.Prelude.{◌≡◌};
 ghost use Rattle.machine.specs.Lent.{memory_of, opening_of, seen};
 
@@ -44,6 +45,8 @@ pub struct OpeningMemory<'a> {
     pub values: &'a [u64],
     pub output: &'a [u64],
 }
+
+// The two structs differ in which slices may change, so that `look` is written for each.
 
 impl OpeningMemory<'_> {
     pub fn look(&self) -> SeenMemory<'_>

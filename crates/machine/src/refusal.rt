@@ -65,6 +65,8 @@ pub enum InstructionError {
     NoRoom(PlaceD),
 }
 
+// Written by hand: a clause names what a `?` makes of a fault, which a derived impl does not say.
+
 impl From<PlaceA> for InstructionError {
     ghost from_gives = { λ e r. r ≡ Handed e };
 

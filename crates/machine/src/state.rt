@@ -19,6 +19,7 @@ pub struct VMState {
     pub digests: usize,
     pub sponge: Sponge,
     pub halted: bool,
-    // The log's revision: 1, or 2, whose Tip5 and U32 records have a clock.
+    // The log's revision: 1, or 2, whose Tip5 and U32 records have a clock. It is a number, since a caller may hand in another one, which
+    // place A turns down.
     pub revision: u64,
 }

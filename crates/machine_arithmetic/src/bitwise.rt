@@ -2,7 +2,7 @@
 ghost use Rattle.std.specs.Prelude.{◌≡◌, ℕ, [] as Nil, ◌∷◌, ◌<◌, ◌^◌, ltb};
 ghost use Rattle.machine.specs.Machine.{st};
 ghost use Rattle.machine.specs.Effect.{acts, recording, u32_only, u32 as called};
-ghost use Rattle.machine_effects.specs.EffectView.{decision_of};
+ghost use Rattle.machine_effects.specs.EffectView.{u32_of, decision_of};
 ghost use Rattle.machine_arithmetic.specs.U32.{IsU32};
 ghost use Rattle.choices.specs.Choice.{cond};
 ghost use Rattle.machine.specs.Bits.{ones_of, highest_of, both_of, either_of};
@@ -17,21 +17,13 @@ use machine_isa::op_stack::Top;
 pub fn as_u32(a: u64) -> Result<u32, InstructionError>
     ensures { IsU32 a result }
 {
-    match u32::try_from(a) {
-        Ok(n) => Ok(n),
-        Err(_) => Err(InstructionError::FailedU32Conversion(a)),
-    }
+    u32::try_from(a).map_err(|_| InstructionError::FailedU32Conversion(a))
 }
 
 // Takes words off, puts one on, and records one call.
-fn put(pops: usize, a: u64, opcode: u64, left: u64, right: u64) -> Decided
-    ensures { decision_of result ≡ acts (recording (called opcode left right ∷ Nil) pops (a ∷ Nil)) }
+fn put(pops: usize, a: u64, call: U32Call) -> Decided
+    ensures { decision_of result ≡ acts (recording (u32_of call ∷ Nil) pops (a ∷ Nil)) }
 {
-    let call = U32Call {
-        opcode,
-        left,
-        right,
-    };
     Ok(Effect::puts_u32(pops, Few::of([a]), U32Calls::One(call)))
 }
 
@@ -41,11 +33,7 @@ pub fn split(w: &Top) -> Decided
     let a = w.st(0);
     let hi = base::high(a);
     let lo = base::low(a);
-    let call = U32Call {
-        opcode: 4,
-        left: lo,
-        right: hi,
-    };
+    let call = U32Call::new(4, lo, hi);
     Ok(Effect::puts_u32(1, Few::of([hi, lo]), U32Calls::One(call)))
 }
 
@@ -57,7 +45,8 @@ fn of_two<F: FnOnce(u32, u32) -> u64>(w: &Top, opcode: u64, operation: F) -> Dec
 {
     let a = as_u32(w.st(0))?;
     let b = as_u32(w.st(1))?;
-    put(2, operation(a, b), opcode, u64::from(a), u64::from(b))
+    let call = U32Call::new(opcode, u64::from(a), u64::from(b));
+    put(2, operation(a, b), call)
 }
 
 pub fn lt(w: &Top) -> Decided
@@ -111,7 +100,7 @@ pub fn log_2_floor(w: &Top) -> Decided
     if a == 0 {
         return Err(InstructionError::LogarithmOfZero.into());
     }
-    put(1, highest(a), 12, u64::from(a), 0)
+    put(1, highest(a), U32Call::new(12, u64::from(a), 0))
 }
 
 // The base may be any word.
@@ -121,7 +110,7 @@ pub fn pow(w: &Top) -> Decided
     let b = w.st(0);
     let e = as_u32(w.st(1))?;
     let exponent = u64::from(e);
-    put(2, base::mod_pow(b, exponent), 30, b, exponent)
+    put(2, base::mod_pow(b, exponent), U32Call::new(30, b, exponent))
 }
 
 // ST 0 is divided by ST 1; quotient and remainder come with the calls that show them.
@@ -137,16 +126,8 @@ pub fn div_mod(w: &Top) -> Decided
     }
     let q = u64::from(n / d);
     let r = u64::from(n % d);
-    let less = U32Call {
-        opcode: 6,
-        left: r,
-        right: below,
-    };
-    let whole = U32Call {
-        opcode: 4,
-        left: above,
-        right: q,
-    };
+    let less = U32Call::new(6, r, below);
+    let whole = U32Call::new(4, above, q);
     Ok(Effect::puts_u32(2, Few::of([q, r]), U32Calls::Two(less, whole)))
 }
 
@@ -161,5 +142,5 @@ pub fn pop_count(w: &Top) -> Decided
     ensures { decision_of result ≡ pop_count_of w.now.words }
 {
     let a = as_u32(w.st(0))?;
-    put(1, ones(a), 28, u64::from(a), 0)
+    put(1, ones(a), U32Call::new(28, u64::from(a), 0))
 }

@@ -1,20 +1,21 @@
 -- What place A allows of arguments, that an opcode of no instruction is not decoded, and what an instruction is handed of a sound
 -- machine. Assumes nothing.
-use mathlib.Core.Path.{◌≡◌, refl, sym, ap, subst, ◌∙◌}
+use mathlib.Core.Path.{◌≡◌, refl, subst}
 use mathlib.Core.Bool.{Bool, true, false}
 use mathlib.Core.List.{List, [], ◌∷◌}
-use Prim.Native.Nat.{ℕ, ◌-◌, ◌≤◌, ◌<◌}
+use Prim.Native.Nat.{ℕ, ◌≤◌, ◌<◌}
 use native.Mathlib.Omega.{arith}
-use borrow.Author.Tests.{ltb-true, ltb-false, eqb-true, eq-eqb, ne_eqb}
-use mathlib.Core.Logic.{inl, inr, ◌⊎◌}
-use lib.ListN.{length, get_or}
+use borrow.Author.Tests.{ltb-false, eqb-true, eq-eqb, ne_eqb}
+use mathlib.Core.Logic.{inl, inr}
 use lib.Dec.{eqb, ltb}
 use Rattle.choices.specs.Choice.{cond}
-use Rattle.machine.specs.Instruction.{Row, Argument, words, place_of_stack, table, Decoded, known, unknown, decode_in, decode, argument_fault}
-use Rattle.machine.specs.Machine.{Machine, ram}
+use Rattle.machine.specs.Instruction.{Row, words, place_of_stack, table, Decoded, known, unknown, decode_in, decode, argument_fault}
+use Rattle.machine.specs.Machine.{Machine, ram, jump_top}
 use Rattle.machine.specs.Sound.{Sound}
 use Rattle.machine_ram.specs.RamView.{Usable}
-use Rattle.machine_decide.specs.DecideView.{is_one, hashes}
+use Rattle.machine_decide.specs.DecideView.{is_one, hashes, plain_alike, hash_alike, Shows, ShowsHash}
+use Rattle.machine_decide.specs.declared.handed.Handed.{Handed}
+use Rattle.machine_decide.specs.declared.handed.HandedHash.{HandedHash}
 use Rattle.machine_isa.proofs.TableLaws.{OneOf, Rest}
 
 pub words_allowed : (n : ℕ) → argument_fault words n ≡ 0 → n ≤ 5
@@ -90,3 +91,14 @@ not_hashing op (((((((u, a), b), c), d), e), f), g) =
 
 pub sound-usable : (m : Machine) → Sound m → Usable (ram m)
 sound-usable m s = record { ordered = record { within = s.cells.used; ascending = s.cells.ascending }; values = omega (arith, s.cells.used, s.cells.pair) }
+
+-- ---- what machines show that are alike
+
+pub shows_alike : (m : Machine) (h : Handed) (digests output : List ℕ) → Shows m h → Shows (plain_alike m digests output) h
+unfolding jump_top
+shows_alike m h digests output s =
+    record { top = s.top; pointer = s.pointer; opcodes = s.opcodes; public = s.public; secret = s.secret; jump = s.jump; cells = s.cells }
+
+pub shows-alike-hash : (m : Machine) (h : HandedHash) (arguments public secret origins destinations output : List ℕ) → ShowsHash m h →
+    ShowsHash (hash_alike m arguments public secret origins destinations output) h
+shows-alike-hash m h arguments public secret origins destinations output s = record { top = s.top; digests = s.digests; cells = s.cells }

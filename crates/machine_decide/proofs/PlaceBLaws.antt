@@ -10,10 +10,10 @@ use lib.Dec.{ltb, leb}
 use Rattle.machine.specs.declared.state.VMState.{VMState}
 use Rattle.choices.specs.Choice.{cond}
 use Rattle.machine.specs.Refusal.{plainly}
-use Rattle.machine.specs.Instruction.{Row, Change, grows, shrinks, grows_by_argument, shrinks_by_argument, table, Decoded, known, unknown, decode, grown_by, shrunk_by}
+use Rattle.machine.specs.Instruction.{Change, grows, shrinks, grows_by_argument, shrinks_by_argument, table, Decoded, known, unknown, decode, grown_by, shrunk_by}
 use Rattle.machine_isa.specs.InstructionView.{grown_in, shrunk_in}
 use Rattle.machine.specs.Machine.{Machine}
-use Rattle.machine.specs.Effect.{Decision, refuses}
+use Rattle.machine.specs.Effect.{refuses}
 use Rattle.machine.specs.Decide.{opcode_of, argument_of, effect_of, decide_in, decide_of}
 use Rattle.machine.proofs.Weighed.{all_of, all-decode}
 use Rattle.machine_decide.specs.DecideView.{act_in}

@@ -6,12 +6,13 @@ use Rattle.machine_effects.specs.declared.effect.Effect.{Effect}
 use Rattle.machine_effects.specs.declared.effect.Refused.{Refused}
 use Rattle.machine_hashing.specs.declared.hashing.Hashed.{Hashed}
 use Rattle.machine_decide.specs.declared.handed.Handed.{Handed}
+use Rattle.machine_decide.specs.declared.handed.HandedHash.{HandedHash}
 use Rattle.choices.specs.Choice.{cond}
 use Rattle.machine.specs.Words.{Words}
 use Rattle.machine_ram.specs.LentCells.{cells_of}
 use Rattle.machine.specs.Refusal.{plainly}
 use Rattle.machine.specs.Instruction.{Decoded, known, unknown, decode}
-use Rattle.machine.specs.Machine.{Machine, JumpTop, empty, entry, ram, jump_top, public_left, secret_left, digests_left}
+use Rattle.machine.specs.Machine.{Machine, machine, code, memory, JumpTop, empty, entry, ram, jump_top, public_left, secret_left, digests_left}
 use Rattle.machine.specs.Machine as M
 use Rattle.machine.specs.Effect.{Decision, refuses}
 use Rattle.machine_effects.specs.EffectView.{decision_of, jump_top_of}
@@ -36,9 +37,31 @@ hashes op = is_one op (18 ∷ 34 ∷ 36 ∷ 40 ∷ 44 ∷ 48 ∷ 56 ∷ [])
 
 -- ---- what an instruction is handed
 
--- a sound machine stands on a slot
+-- machines that are alike to an instruction that does not hash, and to one that does
+abbrev pub plain_alike : Machine → List ℕ → List ℕ → Machine
+plain_alike m digests output =
+    machine m.state (code m.code.opcodes m.code.arguments m.code.public m.code.secret digests) (memory m.memory.op_stack m.memory.origins m.memory.destinations m.memory.addresses m.memory.values output)
+
+abbrev pub hash_alike : Machine → List ℕ → List ℕ → List ℕ → List ℕ → List ℕ → List ℕ → Machine
+hash_alike m arguments public secret origins destinations output =
+    machine m.state (code m.code.opcodes arguments public secret m.code.digests) (memory m.memory.op_stack origins destinations m.memory.addresses m.memory.values output)
+
+-- a sound machine stands on a slot; what no instruction looks at that does not hash may be anything
 pub record StandsOn (m : Machine) : Type 0 where
-  pub sound : Sound m
+  pub digests : List ℕ
+  pub output : List ℕ
+  pub sound : Sound (plain_alike m digests output)
+  pub inside : m.state.pointer < length m.code.opcodes
+
+-- and what none looks at that hashes
+pub record HashesOn (m : Machine) : Type 0 where
+  pub arguments : List ℕ
+  pub public : List ℕ
+  pub secret : List ℕ
+  pub origins : List ℕ
+  pub destinations : List ℕ
+  pub output : List ℕ
+  pub sound : Sound (hash_alike m arguments public secret origins destinations output)
   pub inside : m.state.pointer < length m.code.opcodes
 
 -- the last of n entries of a jump stack
@@ -53,17 +76,24 @@ pub record Reliable (h : Handed) : Type 0 where
   pub argument : h.argument < p
   pub allowed : argument4 (decode h.opcode) h.argument ≡ 0
 
--- it is what the machine m shows
-pub record Shows (m : Machine) (h : Handed) : Type 0 where
+-- it is what stands in the machine's slot
+pub record InSlot (m : Machine) (h : Handed) : Type 0 where
   pub opcode : opcode_of m ≡ h.opcode
   pub argument : argument_of m ≡ h.argument
+
+-- and what the machine shows besides
+pub record Shows (m : Machine) (h : Handed) : Type 0 where
   pub top : M.top m ≡ h.top.words
   pub pointer : m.state.pointer ≡ h.pointer
   pub opcodes : m.code.opcodes ≡ h.opcodes.now
   pub public : public_left m ≡ h.public.now
   pub secret : secret_left m ≡ h.secret.now
-  pub digests : digests_left m ≡ h.digests.now
   pub jump : jump_top m ≡ jump_top_of h.jump
+  pub cells : ram m ≡ cells_of h.ram
+
+pub record ShowsHash (m : Machine) (h : HandedHash) : Type 0 where
+  pub top : M.top m ≡ h.top.words
+  pub digests : digests_left m ≡ h.digests.now
   pub cells : ram m ≡ cells_of h.ram
 
 -- ---- what it decides
@@ -72,5 +102,13 @@ pub record Acted (h : Handed) (r : Result Effect Refused) : Type 0 where
   pub is : (m : Machine) → Shows m h → decision_of r ≡ act_in (decode h.opcode) h.argument m
 
 -- with a trace or the sponge, whatever the argument is
-pub record ActedHash (h : Handed) (s : Sponge) (r : Result Hashed Refused) : Type 0 where
-  pub is : (n : ℕ) (m : Machine) → Shows m h → m.state.sponge ≡ s → hashed_of r ≡ act_in (decode h.opcode) n m
+pub record ActedHash (h : HandedHash) (s : Sponge) (r : Result Hashed Refused) : Type 0 where
+  pub is : (n : ℕ) (m : Machine) → ShowsHash m h → m.state.sponge ≡ s → hashed_of r ≡ act_in (decode h.opcode) n m
+
+-- the same of a machine and all that are alike
+pub record DecidedPlain (m : Machine) (r : Result Effect Refused) : Type 0 where
+  pub is : (digests output : List ℕ) → decision_of r ≡ act_in (decode (opcode_of m)) (argument_of m) (plain_alike m digests output)
+
+pub record DecidedHash (m : Machine) (r : Result Hashed Refused) : Type 0 where
+  pub is : (n : ℕ) (arguments public secret origins destinations output : List ℕ) →
+      hashed_of r ≡ act_in (decode (opcode_of m)) n (hash_alike m arguments public secret origins destinations output)

@@ -1,6 +1,5 @@
 -- Place B as a number: 10 halted, 11 pointer outside the program, 12 depth behind the instruction under 16, or 0.
-use Rattle.std.specs.Prelude.{ℕ, ◌+◌, ◌≤◌, ◌<◌, ◌≡◌, List, length, get_or, ltb}
-use Rattle.field.specs.Base.{p}
+use Rattle.std.specs.Prelude.{ℕ, ◌+◌, ◌≤◌, ◌≡◌, List, length, get_or, ltb}
 use Rattle.machine.specs.declared.state.VMState.{VMState}
 use Rattle.choices.specs.Choice.{cond}
 use Rattle.machine.specs.Words.{Words}

@@ -1,14 +1,12 @@
 // What the next instruction does: place C, behind place B.
 ghost use Rattle.std.specs.Prelude.{◌≡◌, true as yes, false as no};
-ghost use Rattle.machine.specs.Instruction.{decode};
 ghost use Rattle.machine.specs.Machine.{machine};
 ghost use Rattle.machine.specs.Lent.{code_of, seen};
-ghost use Rattle.machine.specs.Decide.{opcode_of, argument_of};
-ghost use Rattle.machine_effects.specs.EffectView.{decision_of};
-ghost use Rattle.machine_hashing.specs.HashedView.{hashed_of};
-ghost use Rattle.machine_decide.specs.DecideView.{hashes as hashes_of, act_in, StandsOn, Reliable, Acted, ActedHash};
+ghost use Rattle.machine.specs.Words.{Words};
+ghost use Rattle.machine.specs.Decide.{opcode_of};
+ghost use Rattle.machine_decide.specs.DecideView.{hashes as hashes_of, StandsOn, HashesOn, Reliable, Acted, ActedHash, DecidedPlain, DecidedHash};
 
-use crate::handed::{Handed, hand_over};
+use crate::handed::{Handed, HandedHash, hand_over, hand_over_hash};
 use machine::lent::{LentCode, SeenMemory};
 use machine::refusal::{InstructionError, PlaceA};
 use machine::state::VMState;
@@ -23,10 +21,7 @@ use tip5::sponge::Sponge;
 pub fn hashes(opcode: u64) -> bool
     ensures { result ≡ hashes_of opcode }
 {
-    match opcode {
-        18 | 34 | 36 | 40 | 44 | 48 | 56 => true,
-        _ => false,
-    }
+    matches!(opcode, 18 | 34 | 36 | 40 | 44 | 48 | 56)
 }
 
 // The instructions without a trace, in the order of the Rust.
@@ -82,8 +77,8 @@ pub fn act(h: &Handed<'_>) -> Decided
 }
 
 // The instructions with a trace, and sponge_init.
-pub fn act_hashing(h: &Handed<'_>, sponge: &Sponge) -> HashDecided
-    requires reliable { Reliable h.now }
+pub fn act_hashing(h: &HandedHash<'_>, sponge: &Sponge) -> HashDecided
+    requires words { Words h.now.top.words }
     requires hashing { hashes_of h.now.opcode ≡ yes }
     ensures { ActedHash h.now sponge.now result }
 {
@@ -105,7 +100,7 @@ pub fn act_hashing(h: &Handed<'_>, sponge: &Sponge) -> HashDecided
 pub fn plain(state: &VMState, code: &LentCode<'_>, memory: &SeenMemory<'_>) -> Decided
     requires on { StandsOn (machine state.now (code_of code.now) (seen memory.now)) }
     requires plain { hashes_of (opcode_of (machine state.now (code_of code.now) (seen memory.now))) ≡ no }
-    ensures { decision_of result ≡ act_in (decode (opcode_of (machine state.now (code_of code.now) (seen memory.now)))) (argument_of (machine state.now (code_of code.now) (seen memory.now))) (machine state.now (code_of code.now) (seen memory.now)) }
+    ensures { DecidedPlain (machine state.now (code_of code.now) (seen memory.now)) result }
 {
     let h = hand_over(state, code, memory);
     act(&h)
@@ -113,10 +108,10 @@ pub fn plain(state: &VMState, code: &LentCode<'_>, memory: &SeenMemory<'_>) -> D
 
 // An instruction with a trace, or sponge_init.
 pub fn hashing(state: &VMState, code: &LentCode<'_>, memory: &SeenMemory<'_>) -> HashDecided
-    requires on { StandsOn (machine state.now (code_of code.now) (seen memory.now)) }
+    requires on { HashesOn (machine state.now (code_of code.now) (seen memory.now)) }
     requires hashing { hashes_of (opcode_of (machine state.now (code_of code.now) (seen memory.now))) ≡ yes }
-    ensures { hashed_of result ≡ act_in (decode (opcode_of (machine state.now (code_of code.now) (seen memory.now)))) (argument_of (machine state.now (code_of code.now) (seen memory.now))) (machine state.now (code_of code.now) (seen memory.now)) }
+    ensures { DecidedHash (machine state.now (code_of code.now) (seen memory.now)) result }
 {
-    let h = hand_over(state, code, memory);
+    let h = hand_over_hash(state, code, memory);
     act_hashing(&h, &state.sponge)
 }

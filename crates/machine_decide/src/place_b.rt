@@ -21,9 +21,8 @@ pub fn place_b(state: &VMState, code: &LentCode<'_>) -> Result<(), PlaceB>
     }
     let opcode = code.opcodes[at];
     let argument = code.arguments[at];
-    let grown = instruction::grown(opcode, argument) as usize;
-    let shrunk = instruction::shrunk(opcode, argument) as usize;
-    if state.depth + grown < 16 + shrunk {
+    let (grown, shrunk) = instruction::depth_change(opcode, argument);
+    if state.depth + (grown as usize) < 16 + shrunk as usize {
         Err(PlaceB::OpStackTooShallow)
     } else {
         Ok(())

@@ -4,11 +4,9 @@ use Rattle.std.specs.Option.{ok_or}
 use Rattle.std.specs.Result.{IsErrAnd}
 use Rattle.std.proofs.lemmas.Result.{err_from_is_err_and}
 use Rattle.machine.specs.declared.refusal.InstructionError.{InstructionError}
-use Rattle.machine.specs.declared.refusal.InstructionError.TheVariants.{JumpStackIsEmpty}
 use Rattle.machine.specs.Refusal.{refusal_of}
 use Rattle.machine.specs.Effect.{Effect, acts, refuses, drops}
 use Rattle.machine_effects.specs.declared.effect.Effect.{Effect as CodeEffect}
-use Rattle.machine_effects.specs.declared.effect.JumpEntry.{JumpEntry}
 use Rattle.machine_effects.specs.declared.effect.Refused.{Refused}
 use Rattle.machine_effects.specs.declared.effect.Refused.TheVariants.{Kept, Dropped}
 use Rattle.machine_effects.specs.EffectView.{effect_of, decision_of}
@@ -29,7 +27,7 @@ drops-as e = refl
 pub exits : (e : InstructionError) (r : Result CodeEffect Refused) → IsErrAnd r (λ d. d ≡ Kept e) → decision_of r ≡ refuses (refusal_of e)
 exits e r h = let p = err_from_is_err_and r h in rw (p.1, p.2) (refuses-as e)
 
--- the exit where there is no entry of the jump stack
-pub no-entry : (t : Option JumpEntry) (e : InstructionError) → Err e ≡ ok_or t JumpStackIsEmpty → (t ≡ None) × (e ≡ JumpStackIsEmpty)
-no-entry None e h = (refl, cc)
-no-entry (Some x) e h = let z : ⊥ = cc in absurd z
+-- the exit where there is none
+pub none_is : {A : Type 0} (t : Option A) (d e : InstructionError) → Err e ≡ ok_or t d → (t ≡ None) × (e ≡ d)
+none_is None d e h = (refl, cc)
+none_is (Some x) d e h = let z : ⊥ = cc in absurd z

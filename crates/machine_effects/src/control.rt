@@ -4,7 +4,7 @@ ghost use Rattle.field.specs.Base.{p};
 ghost use Rattle.machine_effects.specs.EffectView.{decision_of, jump_top_of};
 ghost use Rattle.machine.specs.Control.{halt_of, nop_of, skiz_of, call_of, return_of, recurse_of, recurse_or_return_of, assert_of};
 
-use crate::effect::{Decided, Effect, JumpChange, JumpEntry, Next, Refused};
+use crate::effect::{Decided, Effect, JumpChange, JumpEntry, Refused};
 use machine::refusal::InstructionError;
 use machine_isa::instruction;
 use machine_isa::op_stack::Top;
@@ -33,11 +33,9 @@ pub fn skiz(opcodes: &[u64], pointer: u64, w: &Top) -> Decided
         return Ok(Effect::takes_off(1));
     }
     let next = pointer + 1;
-    let at = next as usize;
-    if at < opcodes.len() {
-        Ok(Effect::goes(1, next + instruction::size(opcodes[at])))
-    } else {
-        Err(Refused::Dropped(InstructionError::InstructionPointerOverflow))
+    match opcodes.get(next as usize) {
+        Some(opcode) => Ok(Effect::goes(1, next + instruction::size(*opcode))),
+        None => Err(Refused::Dropped(InstructionError::InstructionPointerOverflow)),
     }
 }
 

@@ -1,5 +1,5 @@
 // What an instruction does; specs/EffectView.antt says which effect it stands for.
-ghost use Rattle.std.specs.Prelude.{◌≤◌, length};
+ghost use Rattle.std.specs.Prelude.{◌≡◌, ◌≤◌, length};
 
 use machine::refusal::InstructionError;
 use machine_isa::few::Few;
@@ -70,13 +70,15 @@ pub struct Access {
     pub value: u64,
 }
 
-// At most ten accesses of RAM in one direction: the first `count` of an array.
+// At most ten accesses of RAM in one direction: the first `count` of an array, as a Few has words. A Few of any type would ask for a
+// value to fill the array with.
 #[derive(Clone, Copy)]
 pub struct Accesses {
     pub direction: Direction,
     pub cells: [Access; 10],
     pub count: usize,
-    pub ghost fits: { count ≤ length cells },
+    pub ghost fits: { count ≤ 10 },
+    pub ghost long: { length cells ≡ 10 },
 }
 
 // Why an instruction is turned down. Everything stays, or the top word of the op stack is dropped.
@@ -99,8 +101,28 @@ impl From<InstructionError> for Refused {
     }
 }
 
+impl U32Call {
+    ghost use Rattle.std.specs.Prelude.{◌≡◌};
+
+    pub fn new(opcode: u64, left: u64, right: u64) -> Self
+        ensures { result ≡ record { opcode = opcode; left = left; right = right } }
+    {
+        U32Call {
+            opcode,
+            left,
+            right,
+        }
+    }
+}
+
 impl Access {
     ghost use Rattle.std.specs.Prelude.{◌≡◌};
+
+    // What stands behind the last of a row.
+    pub const NONE: Access = Access {
+        address: 0,
+        value: 0,
+    };
 
     pub fn new(address: u64, value: u64) -> Self
         ensures { result ≡ record { address = address; value = value } }
@@ -110,7 +132,7 @@ impl Access {
 }
 
 impl Accesses {
-    ghost use Rattle.std.specs.Prelude.{◌≡◌, [] as Nil, map};
+    ghost use Rattle.std.specs.Prelude.{◌≡◌, [] as Nil, length, map, take};
     ghost use Rattle.machine_effects.specs.EffectView.{accesses_of, access_of};
 
     #[tactic(auto, unfolding(crate::specs::EffectView::first_accesses))]
@@ -119,10 +141,7 @@ impl Accesses {
     {
         Accesses {
             direction: Direction::Read,
-            cells: [Access {
-                address: 0,
-                value: 0,
-            }; 10],
+            cells: [Access::NONE; 10],
             count: 0,
         }
     }
@@ -132,16 +151,20 @@ impl Accesses {
         requires { K ≤ 10 }
         ensures { accesses_of result ≡ map (access_of direction) accesses.entry }
     {
-        let mut cells = [Access {
-            address: 0,
-            value: 0,
-        }; 10];
+        let mut cells = [Access::NONE; 10];
         cells[..K].copy_from_slice(&accesses);
         Accesses {
             direction,
             cells,
             count: K,
         }
+    }
+
+    pub fn as_slice(&self) -> &[Access]
+        ensures cells { result.now ≡ take self.now.count self.now.cells }
+        ensures count { length result.now ≡ self.now.count }
+    {
+        &self.cells[..self.count]
     }
 }
 

@@ -1,5 +1,5 @@
 // What is taken from an input: read_io and divine; and write_io.
-ghost use Rattle.std.specs.Prelude.{◌≡◌, ◌≤◌, length};
+ghost use Rattle.std.specs.Prelude.{◌≡◌, ◌≤◌};
 ghost use Rattle.machine.specs.InputOutput.{read_io_of, write_io_of};
 ghost use Rattle.machine.specs.Stack.{divine_of};
 ghost use Rattle.machine_effects.specs.EffectView.{decision_of, Taken};
@@ -14,25 +14,22 @@ fn first_words(left: &[u64], n: usize) -> Option<Few<16>>
     requires { n ≤ 5 }
     ensures { Taken left.now n result }
 {
-    if left.len() < n {
-        None
-    } else {
-        Some(Few::from_slice(&left[..n]))
-    }
+    Some(Few::from_slice(left.get(..n)?))
 }
+
+// read_io and divine differ in the count that goes up and in the error: one function would take both.
 
 // `left` is what is left of the public input.
 pub fn read_io(n: usize, left: &[u64]) -> Decided
     requires { n ≤ 5 }
     ensures { decision_of result ≡ read_io_of n left.now }
 {
-    match first_words(left, n) {
-        Some(words) => Ok(Effect {
-            publics: n,
-            ..Effect::puts(0, words)
-        }),
-        None => Err(InstructionError::EmptyPublicInput(left.len() as u64).into()),
-    }
+    let empty = InstructionError::EmptyPublicInput(left.len() as u64);
+    let words = first_words(left, n).ok_or(empty)?;
+    Ok(Effect {
+        publics: n,
+        ..Effect::puts(0, words)
+    })
 }
 
 // `left` is what is left of the secret input.
@@ -40,13 +37,12 @@ pub fn divine(n: usize, left: &[u64]) -> Decided
     requires { n ≤ 5 }
     ensures { decision_of result ≡ divine_of n left.now }
 {
-    match first_words(left, n) {
-        Some(words) => Ok(Effect {
-            secrets: n,
-            ..Effect::puts(0, words)
-        }),
-        None => Err(InstructionError::EmptySecretInput(left.len() as u64).into()),
-    }
+    let empty = InstructionError::EmptySecretInput(left.len() as u64);
+    let words = first_words(left, n).ok_or(empty)?;
+    Ok(Effect {
+        secrets: n,
+        ..Effect::puts(0, words)
+    })
 }
 
 // ST 0 goes out first.

@@ -14,16 +14,10 @@ use machine_isa::few::Few;
 use machine_isa::op_stack::Top;
 use machine_ram::ram::Ram;
 
-// From one address to the next, up or down.
+// From one address to the next, up or down: what is added modulo P, so that both are one function.
 pub const UP: u64 = 1;
 
 pub const DOWN: u64 = base::P - 1;
-
-// What stands behind the accesses of a row.
-const NO_ACCESS: Access = Access {
-    address: 0,
-    value: 0,
-};
 
 // Accesses in a row, their values once more as words to put on, and the address behind the last.
 #[derive(Clone, Copy)]
@@ -33,12 +27,13 @@ pub struct Row {
     pub next: u64,
 }
 
-// Reads the n words at start, start + step, .., each looked for beside the one before.
+// Reads the n words at start, start + step, .., each looked for beside the one before. The loop goes by index, since it fills two arrays
+// to the same place.
 pub fn read_row(ram: &Ram<'_>, start: u64, step: u64, n: usize) -> Row
     requires { (start < p) × (step < p) × (n ≤ 10) }
     ensures { ReadBy step (cells_of ram.now) start n result }
 {
-    let mut cells = [NO_ACCESS; 10];
+    let mut cells = [Access::NONE; 10];
     let mut words = [0; 16];
     let mut address = start;
     let mut guess = 0;
@@ -75,12 +70,12 @@ pub fn read_mem(ram: &Ram<'_>, w: &Top, n: usize) -> Decided
     Ok(Effect::puts_ram(1, put, row.accesses))
 }
 
-// The writes of ST 1, ST 2, .. to start, start + 1, ..
-fn write_row(w: &Top, start: u64, n: usize) -> Row
+// The writes of ST 1, ST 2, .. to start, start + 1, .., and the address behind the last.
+fn write_row(w: &Top, start: u64, n: usize) -> (Accesses, u64)
     requires { (start < p) × (n ≤ 5) }
-    ensures { Written w.now.words start n result }
+    ensures { Written w.now.words start n result.0 result.1 }
 {
-    let mut cells = [NO_ACCESS; 10];
+    let mut cells = [Access::NONE; 10];
     let mut address = start;
     for i in 0..n {
         let value = w.st(i + 1);
@@ -92,17 +87,13 @@ fn write_row(w: &Top, start: u64, n: usize) -> Row
         cells,
         count: n,
     };
-    Row {
-        accesses,
-        words: [0; 16],
-        next: address,
-    }
+    (accesses, address)
 }
 
 pub fn write_mem(w: &Top, n: usize) -> Decided
     requires { (Words w.now.words) × (n ≤ 5) }
     ensures { decision_of result ≡ write_mem_of w.now.words n }
 {
-    let row = write_row(w, w.st(0), n);
-    Ok(Effect::puts_ram(n + 1, Few::of([row.next]), row.accesses))
+    let (accesses, next) = write_row(w, w.st(0), n);
+    Ok(Effect::puts_ram(n + 1, Few::of([next]), accesses))
 }

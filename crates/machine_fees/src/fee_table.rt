@@ -1,15 +1,16 @@
-// A fee table as C lends it: three slices, of each row the lowest opcode, the highest, and the fee.
+// A fee table as C lends it: three slices, of each row the lowest opcode, the highest, and the fee. Loops take a row's words by one index:
+// over `zip` they would know the slices by its iterators alone.
 #![tactic(auto, unfolding(choices::specs::Choice::first_of, choices::specs::Choice::above_of, choices::specs::Choice::differ_of))]
 
 ghost use Rattle.std.specs.Prelude.{◌≡◌, true, false, length, get_or, ltb, IsSome};
 ghost use Rattle.choices.specs.Choice.{cond, above_of};
 ghost use Rattle.machine.specs.Refusal.{plainly, found_a};
-ghost use Rattle.machine.specs.FeeTable.{fee_table, wide1, table1, rows64, earlier};
+ghost use Rattle.machine.specs.FeeTable.{wide1, table1, rows64, earlier};
 ghost use Rattle.machine_fees.specs.FeeView.{table_of, fees_of, found_fee, carrying, FoundIn, Shaped, Priceable, OpcodesChecked, TableChecked, FeesChecked};
 
 use machine::refusal::{FeeError, InstructionError, PlaceA};
 use machine_isa::instruction::is_known;
-use machine_place_a::checks::{check_length, check_pair};
+use machine_place_a::checks::{check_at_most, check_length, check_pair};
 
 #[derive(Clone, Copy)]
 pub struct LentFees<'a> {
@@ -18,7 +19,8 @@ pub struct LentFees<'a> {
     pub fees: &'a [u64],
 }
 
-// In how many rows an opcode lies, and the last of them, 0 where there is none.
+// In how many rows an opcode lies, and the last of them. In none it is 0 and no Option: such a table is turned down, and its prices are not
+// used.
 #[derive(Clone, Copy)]
 pub struct Found {
     pub times: usize,
@@ -27,22 +29,12 @@ pub struct Found {
 
 // ---- 1
 
-// A fee has 32 bits.
-fn check_fee(fee: u64) -> Result<(), PlaceA>
-    ensures { found_a result ≡ above_of fee 4294967295 1 }
-{
-    if 4294967295 < fee {
-        Err(PlaceA::BadShape)
-    } else {
-        Ok(())
-    }
-}
-
+// Each fee has 32 bits.
 fn check_narrow(fees: &[u64]) -> Result<(), PlaceA>
     ensures { found_a result ≡ wide1 fees.now (length fees.now) }
 {
     for fee in fees {
-        check_fee(*fee)?;
+        check_at_most(*fee as usize, 4294967295, PlaceA::BadShape)?;
     }
     Ok(())
 }
@@ -93,7 +85,7 @@ fn check_rows(table: &LentFees<'_>) -> Result<(), FeeError>
 fn covers(lowest: u64, highest: u64, opcode: u64) -> bool
     ensures { result ≡ cond (ltb opcode lowest) false (cond (ltb highest opcode) false true) }
 {
-    lowest <= opcode && opcode <= highest
+    (lowest..=highest).contains(&opcode)
 }
 
 impl LentFees<'_> {
@@ -116,11 +108,7 @@ impl LentFees<'_> {
     fn fee(&self, row: usize) -> u64
         ensures { result ≡ get_or self.now.fees.now row 0 }
     {
-        if row < self.fees.len() {
-            self.fees[row]
-        } else {
-            0
-        }
+        self.fees.get(row).copied().unwrap_or(0)
     }
 }
 

@@ -80,14 +80,11 @@ fn last(effect: Effect, opcode: u64, trace: [u64; 96]) -> Hashed
 pub fn top_first(w: &Top) -> [u64; 16]
     ensures { result ≡ from_top w.now.words 0 16 }
 {
-    let s = w.words;
-    [
-        s[15], s[14], s[13], s[12], s[11], s[10], s[9], s[8], s[7], s[6], s[5], s[4], s[3], s[2],
-        s[1], s[0],
-    ]
+    std::array::from_fn(|i| w.st(i))
 }
 
-// Ten words, then those of `rest` from place 10 on.
+// Ten words, then those of `rest` from place 10 on. Tip5's own function takes a block of ten words; the callers
+// here have sixteen.
 fn overwritten(rest: [u64; 16], ten: &[u64; 16]) -> [u64; 16]
     ensures { result ≡ take 10 ten.now ++ drop 10 rest }
 {
@@ -130,13 +127,9 @@ pub fn assert_vector(w: &Top) -> Decided
 pub fn sponge_init() -> HashDecided
     ensures { hashed_of result ≡ sponge_init_of }
 {
-    let sponge = Sponge {
-        words: [0; 16],
-        set: true,
-    };
     Ok(Hashed {
         effect: Effect::takes_off(0),
-        sponge: Some(sponge),
+        sponge: Some(Sponge::init()),
         recorded: Recorded::Reset,
     })
 }
@@ -177,7 +170,7 @@ pub fn sponge_absorb_mem(sponge: &Sponge, ram: &Ram<'_>, w: &Top) -> HashDecided
 fn rate(s: [u64; 16]) -> [u64; 10]
     ensures { result ≡ reversed s 10 }
 {
-    [s[9], s[8], s[7], s[6], s[5], s[4], s[3], s[2], s[1], s[0]]
+    std::array::from_fn(|i| s[9 - i])
 }
 
 // The sponge's first ten words go on the stack.

@@ -1,5 +1,5 @@
 // Merkle steps and dot-product steps.
-ghost use Rattle.std.specs.Prelude.{◌≡◌, [] as Nil, ◌∷◌, ◌++◌, ◌/◌, ◌<◌, length, take};
+ghost use Rattle.std.specs.Prelude.{◌≡◌, [] as Nil, ◌∷◌, ◌++◌, ◌/◌, ◌<◌, length};
 ghost use Rattle.field.specs.Base.{p, add_p};
 ghost use Rattle.machine.specs.Words.{Words};
 ghost use Rattle.machine.specs.Machine.{st};
@@ -73,11 +73,7 @@ fn parent_words(index: u64, trace: &[u64; 96]) -> [u64; 6]
 fn put_step(pops: usize, words: Few<16>, digests: usize, index: u64, accesses: Accesses) -> Effect
     ensures { effect_of result ≡ drawing 0 0 digests (called 4 index (index / 2) ∷ accesses_of accesses) pops (words_of words) }
 {
-    let call = U32Call {
-        opcode: 4,
-        left: index,
-        right: index / 2,
-    };
+    let call = U32Call::new(4, index, index / 2);
     Effect {
         digests,
         ..Effect::recording(pops, words, U32Calls::One(call), accesses)
@@ -98,7 +94,7 @@ fn stepped(w: &Top, trace: [u64; 96]) -> Hashed
 pub fn merkle_step(left: &[u64], w: &Top) -> HashDecided
     ensures { hashed_of result ≡ merkle_step_of left.now w.now.words }
 {
-    let _index = as_u32(w.st(5))?;
+    as_u32(w.st(5))?;
     if left.len() < 5 {
         return Err(InstructionError::EmptySecretDigestInput.into());
     }
@@ -121,7 +117,7 @@ pub fn merkle_step_mem(ram: &Ram<'_>, w: &Top) -> HashDecided
     requires { st w.now.words 7 < p }
     ensures { hashed_of result ≡ merkle_step_mem_of (cells_of ram.now) w.now.words }
 {
-    let _index = as_u32(w.st(5))?;
+    as_u32(w.st(5))?;
     let row = memory::read_row(ram, w.st(7), memory::UP, 5);
     let t = merkle_trace(w, &row.words[..5]);
     Ok(stepped_mem(w, &row, t))

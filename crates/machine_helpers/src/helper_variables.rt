@@ -33,23 +33,21 @@ fn inverse_of_difference(a: u64, b: u64) -> [u64; 6]
 }
 
 // 1 where the program ends with the slot at the pointer.
+#[tactic(auto, unfolding(machine::specs::HelperVariables::next_opcode))]
 pub fn next_opcode(opcodes: &[u64], pointer: u64) -> u64
     requires { pointer < length opcodes.now }
     ensures { result ≡ next_opcode opcodes.now pointer }
 {
-    let next = pointer + 1;
-    let at = next as usize;
-    if at < opcodes.len() { opcodes[at] } else { 1 }
+    let next = pointer as usize + 1;
+    opcodes.get(next).copied().unwrap_or(1)
 }
 
 // Zeros where less than a digest is left.
+#[tactic(auto, unfolding(machine::specs::HelperVariables::next_digest))]
 fn next_digest(left: &[u64]) -> [u64; 5]
     ensures { result ≡ next_digest left.now }
 {
-    if left.len() < 5 {
-        return [0; 5];
-    }
-    [left[0], left[1], left[2], left[3], left[4]]
+    left.first_chunk().copied().unwrap_or([0; 5])
 }
 
 impl Seen<'_> {

@@ -1,4 +1,4 @@
-// What the helper variables look at.
+// What the helper variables look at. The pointer may stand outside the program, as that of an instruction's Handed may not.
 ghost use Rattle.std.specs.Prelude.{◌≡◌, length};
 ghost use Rattle.machine.specs.Words.{Words};
 ghost use Rattle.machine_helpers.specs.WordsProp.{Words-prop};

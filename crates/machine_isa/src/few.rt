@@ -1,5 +1,5 @@
-// At most N words: the first `count` of an array.
-ghost use Rattle.std.specs.Prelude.{◌≤◌, length};
+// At most N words: the first `count` of an array. An `ArrayVec` is not Copy, as an effect and all that is made of it are.
+ghost use Rattle.std.specs.Prelude.{◌≡◌, ◌≤◌, length};
 
 #[derive(Clone, Copy)]
 pub struct Few<const N: usize> {
@@ -9,7 +9,7 @@ pub struct Few<const N: usize> {
 }
 
 impl<const N: usize> Few<N> {
-    ghost use Rattle.std.specs.Prelude.{◌≡◌, [] as Nil, length};
+    ghost use Rattle.std.specs.Prelude.{[] as Nil};
     ghost use Rattle.machine_isa.specs.FewWords.{words_of};
 
     #[inline(always)]

@@ -1,4 +1,5 @@
-// The instructions' table: size, argument and depth change of each opcode, and the most bytes that a step writes.
+// The instructions' table: size, argument and depth change of each opcode, and the most bytes that a step writes. An opcode is the number
+// that C lends in a slot: an enum of the instructions would ask for a match of 46 arms that makes it, before each match on it.
 ghost use Rattle.std.specs.Prelude.{◌≡◌};
 ghost use Rattle.choices.specs.Choice.{cond};
 ghost use Rattle.machine.specs.Lengths.{most_bytes};
@@ -75,7 +76,7 @@ pub fn check_argument(opcode: u64, argument: u64) -> Result<(), PlaceA>
 {
     match takes(opcode) {
         Some(Argument::Nothing) => allow(argument == 0),
-        Some(Argument::Count) => allow(1 <= argument && argument <= 5),
+        Some(Argument::Count) => allow((1..=5).contains(&argument)),
         Some(Argument::StackPlace) => allow(argument <= 15),
         Some(Argument::Word) | None => Ok(()),
     }
@@ -92,7 +93,7 @@ enum Change {
 
 // All opcodes are named, so that the compiler makes a table of it.
 #[inline(always)]
-fn depth_change(opcode: u64) -> Change
+fn change_by(opcode: u64) -> Change
     ensures { change_of result ≡ change_in (decode opcode) }
 {
     match opcode {
@@ -112,25 +113,16 @@ fn depth_change(opcode: u64) -> Change
     }
 }
 
-// How many words deeper the op stack is behind it.
-pub fn grown(opcode: u64, argument: u64) -> u64
-    ensures { result ≡ grown_in (decode opcode) argument }
+// How many words deeper the op stack is behind it, and how many less deep: one of the two is 0.
+pub fn depth_change(opcode: u64, argument: u64) -> (u64, u64)
+    ensures grown { result.0 ≡ grown_in (decode opcode) argument }
+    ensures shrunk { result.1 ≡ shrunk_in (decode opcode) argument }
 {
-    match depth_change(opcode) {
-        Change::Grows(n) => n,
-        Change::GrowsByArgument => argument,
-        _ => 0,
-    }
-}
-
-// How many words less deep the op stack is behind it.
-pub fn shrunk(opcode: u64, argument: u64) -> u64
-    ensures { result ≡ shrunk_in (decode opcode) argument }
-{
-    match depth_change(opcode) {
-        Change::Shrinks(n) => n,
-        Change::ShrinksByArgument => argument,
-        _ => 0,
+    match change_by(opcode) {
+        Change::Grows(n) => (n, 0),
+        Change::Shrinks(n) => (0, n),
+        Change::GrowsByArgument => (argument, 0),
+        Change::ShrinksByArgument => (0, argument),
     }
 }
 

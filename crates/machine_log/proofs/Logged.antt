@@ -295,6 +295,13 @@ pub ram-more : (t : ℕ) (d : Direction) (s : List Access) (n : ℕ) (e : Access
 unfolding ram_records
 ram-more t d s n e h = rw (add-one n, take-suc s n e h, map-append)
 
+-- all of them: those of a slice u that is the first n
+pub ram-all : (t : ℕ) (d : Direction) (s u : List Access) (n i : ℕ) → u ≡ take n s → length u ≡ n → i ≡ length u → (ram_records t d u i ≡ ram_records t d s n) × (i ≡ n)
+unfolding ram_records
+ram-all t d s u n i e l q =
+    let k : i ≡ n = q ∙ l in
+    (rw (k, ← e, take_all n u (omega arith)) refl, k)
+
 -- ---- an effect's calls
 
 pub calls-append : (v t : ℕ) (cs ds : List Call) → call_records v t (cs ++ ds) ≡ call_records v t cs ++ call_records v t ds

@@ -54,8 +54,8 @@ fn reset_record(b: &mut [u8])
 // Each gives how many bytes it takes. In revision 2 length and kind are larger by 4, and the clock stands before the fields; the places are written
 // out, so that they are constants to the compiler.
 
-fn tip5_record(b: &mut [u8], revision: u64, clock: u32, opcode: u64, trace: &[u64]) -> usize
-    requires { (tip5_bytes revision ≤ length b.old) × (length trace.now ≡ 96) }
+fn tip5_record(b: &mut [u8], revision: u64, clock: u32, opcode: u64, trace: &[u64; 96]) -> usize
+    requires { tip5_bytes revision ≤ length b.old }
     ensures { (b.new ≡ logged b.old 0 (record_bytes revision (tip5_record revision clock opcode trace.now))) × (result ≡ tip5_bytes revision) }
 {
     if revision == 2 {
@@ -122,8 +122,15 @@ fn log_reset(b: &mut [u8], at: usize) -> usize
     at + 4
 }
 
-fn log_tip5(b: &mut [u8], at: usize, revision: u64, clock: u32, opcode: u64, trace: &[u64]) -> usize
-    requires { (at + tip5_bytes revision ≤ length b.old) × (length trace.now ≡ 96) }
+fn log_tip5(
+    b: &mut [u8],
+    at: usize,
+    revision: u64,
+    clock: u32,
+    opcode: u64,
+    trace: &[u64; 96],
+) -> usize
+    requires { at + tip5_bytes revision ≤ length b.old }
     ensures { Wrote revision b.old b.new at (tip5_record revision clock opcode trace.now ∷ Nil) (tip5_bytes revision) result }
 {
     let n = tip5_record(&mut b[at..], revision, clock, opcode, trace);
@@ -182,8 +189,9 @@ fn log_accesses(b: &mut [u8], at: usize, clock: u32, accesses: &Accesses) -> usi
     ensures { WroteAny b.old b.new at (ram_records clock accesses.now.direction accesses.now.cells accesses.now.count) (25 * accesses.now.count) result }
 {
     let mut next = at;
-    for i in 0..accesses.count {
-        next = log_ram(b, next, clock, accesses.cells[i], accesses.direction);
+    let all = accesses.as_slice();
+    for access in all {
+        next = log_ram(b, next, clock, *access, accesses.direction);
     }
     next
 }

@@ -11,7 +11,8 @@ use machine::state::VMState;
 use machine_place_a::checks::check_machine;
 use machine_rows::processor_row::write_row;
 
-// Behind place A the machine is sound, which is what write_row relies on.
+// Behind place A the machine is sound, which is what write_row relies on. As helper_variables: one function for both would be handed the words' function, with its
+// clauses.
 pub fn processor_row(
     state: VMState,
     code: &LentCode<'_>,

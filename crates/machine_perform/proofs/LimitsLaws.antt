@@ -1,7 +1,7 @@
 -- Laws of place D: what its loops show, how many cells an effect's writes add, and that the numbers are those of the
 -- definition. Assumes nothing.
 use mathlib.Core.Path.{◌≡◌, refl, sym, ap, ◌∙◌}
-use mathlib.Core.Bool.{Bool, true, false}
+use mathlib.Core.Bool.{Bool, true, false, ◌||◌}
 use mathlib.Core.List.{List, [], ◌∷◌, ◌++◌, map}
 use mathlib.Core.Logic.{◌⊎◌, inl, inr, ⊎_elim}
 use Prim.Native.Nat.{ℕ, zero, suc, ◌+◌, ◌-◌, ◌≤◌, ◌<◌}
@@ -10,12 +10,15 @@ use native.Mathlib.Omega.{arith}
 use borrow.Author.Tests.{eq-eqb, ne_eqb, eqb-true, eqb-false, ltb-true, ltb-false}
 use lib.ListN.{length, take, get_or}
 use lib.Dec.{eqb, ltb}
-use Rattle.std.proofs.lemmas.List.{map-append}
+use Rattle.std.specs.List.{list_any}
+use Rattle.std.proofs.lemmas.List.{map-append, take_all}
+use Rattle.std.proofs.lemmas.List.Folds.{list_any-append}
 use lib.Seq.{take-suc, length-take-le}
+use Rattle.std.specs.Prelude.{Result, Ok, Err, is_ok}
+use Rattle.machine_ram.specs.RamView.{found_of}
 use Rattle.machine.specs.declared.state.VMState.{VMState}
 use Rattle.machine_effects.specs.declared.effect.Effect.{Effect as CodeEffect}
 use Rattle.machine_effects.specs.declared.effect.Access.{Access}
-use Rattle.machine_effects.specs.declared.effect.Accesses.{Accesses}
 use Rattle.machine_effects.specs.declared.effect.Direction.{Direction}
 use Rattle.machine_effects.specs.declared.effect.Direction.TheVariants.{Read, Write}
 use Rattle.machine_effects.specs.declared.effect.U32Calls.{U32Calls}
@@ -43,31 +46,22 @@ same_address w k e h = ap (λ (x : Access). x.address) (same_at w k e h)
 -- ---- whether an address is among those of the writes before
 
 module _ (w : List Access) (a : ℕ) where
-  among_kept : (i n : ℕ) → i ≤ n → among_of w i a ≡ true → among_of w n a ≡ true
+  -- the test as the code makes it
+  pub among_any : (n : ℕ) → n ≤ length w → among_of w n a ≡ list_any (λ (x : Access). eqb x.address a) (take n w)
   unfolding among_of
-  among_kept i zero l h = let e : i ≡ 0 = omega arith in rw e at h
-  among_kept i (suc n) l h = go (eqb i (suc n)) refl (λ m. among_kept i n m h)
+  among_any zero l = refl
+  among_any (suc n) l =
+      rw (take-suc w n no_access l, list_any-append (λ (x : Access). eqb x.address a), ← among_any n (omega arith)) (go (eqb (address_at w n) a) (among_of w n a))
     where
-      go : (t : Bool) → eqb i (suc n) ≡ t → (i ≤ n → among_of w n a ≡ true) → among_of w (suc n) a ≡ true
-      go true e ih = let q : i ≡ suc n = eqb-true i (suc n) e in rw q at h
-      go false e ih =
-          let q : i ≡ suc n → ⊥ = eqb-false i (suc n) e in
-          last (eqb (address_at w n) a) (ih (omega arith))
-        where
-          last : (t : Bool) → among_of w n a ≡ true → cond t true (among_of w n a) ≡ true
-          last true k = refl
-          last false k = k
+      go : (x y : Bool) → cond x true y ≡ (y || (x || false))
+      go true true = refl
+      go true false = refl
+      go false true = refl
+      go false false = refl
 
-  among_here : (i : ℕ) → address_at w i ≡ a → among_of w (suc i) a ≡ true
-  unfolding among_of
-  among_here i h = rw (eq-eqb (address_at w i) a h)
-
-  pub among_found : (i n : ℕ) (e : Access) → i < n → n ≤ length w → (get_or w i e).address ≡ a → true ≡ among_of w n a
-  among_found i n e l m h = sym (among_kept (suc i) n l (among_here i (sym (same_address w i e (omega arith)) ∙ h)))
-
-  pub among_past : (i : ℕ) (e : Access) → i < length w → ((get_or w i e).address ≡ a → ⊥) → among_of w i a ≡ false → among_of w (i + 1) a ≡ false
-  unfolding among_of
-  among_past i e l h k = rw (add-one i, ne_eqb (address_at w i) a (λ z. h (same_address w i e l ∙ z))) k
+-- the same of what the code finds, for write k's own address
+pub among_found : (w : List Access) (k a : ℕ) → k < length w → a ≡ address_at w k → {b t : Bool} → b ≡ list_any (λ (x : Access). eqb x.address a) (take k w) → b ≡ t → among_of w k a ≡ t
+among_found w k a h q e f = among_any w a k (omega arith) ∙ sym e ∙ f
 
 -- ---- whether an address has a cell
 
@@ -75,11 +69,11 @@ pub has_in_lem : (c : Cells) (a : ℕ) → has c a ≡ has_in c.addresses c.coun
 unfolding has_in
 has_in_lem c a = has_addresses c [] a
 
-pub in_at : (c : Cells) (a i : ℕ) → at i ≡ find c a → has_in c.addresses c.count a ≡ true
+in_at : (c : Cells) (a i : ℕ) → at i ≡ find c a → has_in c.addresses c.count a ≡ true
 unfolding has
 in_at c a i h = sym (has_in_lem c a) ∙ ap has_at (sym h)
 
-pub in_absent : (c : Cells) (a i : ℕ) → absent i ≡ find c a → has_in c.addresses c.count a ≡ false
+in_absent : (c : Cells) (a i : ℕ) → absent i ≡ find c a → has_in c.addresses c.count a ≡ false
 unfolding has
 in_absent c a i h = sym (has_in_lem c a) ∙ ap has_at (sym h)
 
@@ -97,7 +91,7 @@ module _ (s : List ℕ) (n : ℕ) (w : List Access) (k : ℕ) where
   pub new_among : {a : ℕ} → a ≡ address_at w k → among_of w k a ≡ true → 0 ≡ new_of s n w k
   new_among q e = sym (new_is true (rw (← q, e)))
 
-  pub new_in_lem : (t : Bool) {a : ℕ} → a ≡ address_at w k → among_of w k a ≡ false → has_in s n a ≡ t → cond t 0 1 ≡ new_of s n w k
+  new_in_lem : (t : Bool) {a : ℕ} → a ≡ address_at w k → among_of w k a ≡ false → has_in s n a ≡ t → cond t 0 1 ≡ new_of s n w k
   new_in_lem t q e h = sym (new_is t (rw (← q, e) h))
 
   new_one : new_of s n w k ≤ 1
@@ -109,12 +103,14 @@ module _ (s : List ℕ) (n : ℕ) (w : List Access) (k : ℕ) where
       go false true = omega arith
       go false false = omega arith
 
-  pub new_few : {r : ℕ} → r ≡ new_of s n w k → r ≤ 1
-  new_few e = rw e new_one
-
   pub fresh_turn : {m r : ℕ} → m ≡ fresh_of s n w k → r ≡ new_of s n w k → m + r ≡ fresh_of s n w (k + 1)
   unfolding fresh_of
   fresh_turn e f = rw (e, f, add-one k)
+
+-- as a search finds it: at a place, or absent
+pub new_by : (c : Cells) (w : List Access) (k : ℕ) {a : ℕ} → a ≡ address_at w k → among_of w k a ≡ false → (r : Result ℕ ℕ) → found_of r ≡ find c a → cond (is_ok r) 0 1 ≡ new_of c.addresses c.count w k
+new_by c w k {a} q e (Ok i) f = new_in_lem c.addresses c.count w k true q e (in_at c a i f)
+new_by c w k {a} q e (Err i) f = new_in_lem c.addresses c.count w k false q e (in_absent c a i f)
 
 fresh-few : (s : List ℕ) (n : ℕ) (w : List Access) (k : ℕ) → fresh_of s n w k ≤ k
 unfolding fresh_of
@@ -267,6 +263,11 @@ read_touch w n c = reads_touch (take n w) c
 
 pub writes_touch : (e : CodeEffect) (c : Cells) → touched c (calls_of e) ≡ touched c (accesses_of e.accesses)
 writes_touch e c = u32s_touch e.u32s (accesses_of e.accesses) c
+
+-- those of a slice u that is the first n
+pub first_slice : (d : Direction) (s u : List Access) (n : ℕ) → u ≡ take n s → first_accesses d u (length u) ≡ first_accesses d s n
+unfolding first_accesses
+first_slice d s u n e = rw (take_all (length u) u (omega arith), e) refl
 
 -- ---- the number
 

@@ -2,7 +2,7 @@
 -- a trace perform as those without. Assumes nothing.
 use mathlib.Core.Path.{◌≡◌, refl, sym, ap, ◌∙◌}
 use mathlib.Core.List.{List, [], ◌∷◌, ◌++◌, map}
-use Prim.Native.Nat.{ℕ, suc, ◌+◌, ◌-◌, ◌*◌, ◌≤◌, ◌<◌}
+use Prim.Native.Nat.{ℕ, suc, ◌+◌, ◌*◌, ◌≤◌, ◌<◌}
 use native.Mathlib.Numerals.{add-one}
 use native.Mathlib.Omega.{arith}
 use lib.ListN.{length, take, get_or}
@@ -27,7 +27,7 @@ use Rattle.machine.specs.Machine.{Memory, memory, Machine, ram}
 use Rattle.machine.specs.Effect.{Call, reset, tip5, u32, ram_read, ram_write, SpongeChange, keeps, Effect}
 use Rattle.machine_effects.specs.EffectView.{u32s_of, access_of, accesses_of, first_accesses, jump_of, effect_of}
 use Rattle.machine_log.specs.Logged.{u32_bytes, u32_count, call_bytes}
-use Rattle.machine_hashing.specs.HashedView.{with_sponge, recorded_with, sponge_change, hashed_calls, hashed_effect}
+use Rattle.machine_hashing.specs.HashedView.{with_sponge, recorded_with, sponge_change, hashed_effect}
 use Rattle.machine.specs.Apply.{put, applied_stack, origins_after, destinations_after, touched, pointer_after, sponge_after, performed_at, performed, limits_of}
 use Rattle.machine_perform.specs.PerformView.{WritesRow, Fit, moved_to, Ready, Performed}
 use Rattle.machine.specs.Sound.{Sound, Facts}
@@ -49,19 +49,18 @@ pub record Wrote (c : Cells) (w : List Access) (i : ℕ) (d : Cells) : Type 0 wh
   pub is : d ≡ touched c (first_accesses Write w i)
   pub ordered : Ordered d.addresses d.count
 
-pub wrote_none : {c : Cells} {w : List Access} {n : ℕ} → WritesRow c w n → Wrote c w 0 c
+pub wrote_none : {c : Cells} {w : List Access} → WritesRow c w → Wrote c w 0 c
 wrote_none {c} {w} r = record { is = writes_start w c; ordered = r.ordered }
 
-module _ {c : Cells} {w : List Access} {n i : ℕ} {d : Cells} (r : WritesRow c w n) (h : i < n) (k : Wrote c w i d) where
+module _ {c : Cells} {w : List Access} {i : ℕ} {d : Cells} (r : WritesRow c w) (h : i < length w) (k : Wrote c w i d) where
   pub wrote_room : (e : Access) {x : Access} → x ≡ get_or w i e → Room d x.address x.value
   wrote_room e {x} q =
       let ad : length d.addresses ≡ length c.addresses = ap (λ (z : Cells). length z.addresses) k.is ∙ touched_addresses (first_accesses Write w i) c in
       let vs : length d.values ≡ length c.values = ap (λ (z : Cells). length z.values) k.is ∙ touched_values (first_accesses Write w i) c in
-      let f = r.few in
       let s : (stored d x.address x.value).count ≡ (touched c (first_accesses Write w (suc i))).count =
       ap (λ (z : Cells). (stored z x.address x.value).count) k.is ∙ ap (λ (z : Access). (stored (touched c (first_accesses Write w i)) z.address z.value).count) q
-      ∙ ap (λ (z : Cells). z.count) (sym (writes_end w c i e (omega (arith, h, f)))) in
-      let m = writes_more w c (suc i) n h f in
+      ∙ ap (λ (z : Cells). z.count) (sym (writes_end w c i e h)) in
+      let m = writes_more w c (suc i) (length w) h (omega arith) in
       record {
         ordered = k.ordered;
         pair = ad ∙ r.pair ∙ sym vs;
@@ -73,7 +72,7 @@ module _ {c : Cells} {w : List Access} {n i : ℕ} {d : Cells} (r : WritesRow c 
       record {
         is =
             s.is ∙ ap (λ (z : Cells). stored z x.address x.value) k.is ∙ ap (λ (z : Access). stored (touched c (first_accesses Write w i)) z.address z.value) q
-            ∙ rw add-one (sym (writes_end w c i e (omega (arith, h, r.few))));
+            ∙ rw add-one (sym (writes_end w c i e h));
         ordered = stored-ordered (wrote_room e q) s;
       }
 
@@ -194,4 +193,4 @@ u32s_bytes v (Two a b) = omega arith
 
 pub call-bytes : (v : ℕ) (e : CodeEffect) → call_sizes v (effect_of e).calls ≡ call_bytes v e
 unfolding effect_of
-call-bytes v e = sizes_append v (u32s_of e.u32s) (accesses_of e.accesses) ∙ omega (arith, u32s_bytes v e.u32s, accesses_bytes v e.accesses e.accesses.fits)
+call-bytes v e = sizes_append v (u32s_of e.u32s) (accesses_of e.accesses) ∙ omega (arith, u32s_bytes v e.u32s, accesses_bytes v e.accesses (omega (arith, e.accesses.fits, e.accesses.long)))

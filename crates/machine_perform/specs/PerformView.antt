@@ -65,11 +65,10 @@ pub record Limited (s : VMState) (e : CodeEffect) (m : Memory) (r : Result (Unit
 -- ---- performance
 
 -- a row of writes that has room
-pub record WritesRow (c : Cells) (w : List Access) (n : ℕ) : Type 0 where
+pub record WritesRow (c : Cells) (w : List Access) : Type 0 where
   pub ordered : Ordered c.addresses c.count
   pub pair : length c.addresses ≡ length c.values
-  pub fits : (touched c (first_accesses Write w n)).count ≤ length c.addresses
-  pub few : n ≤ length w
+  pub fits : (touched c (first_accesses Write w (length w))).count ≤ length c.addresses
 
 -- accesses that have room
 pub record Writes (c : Cells) (a : Accesses) : Type 0 where

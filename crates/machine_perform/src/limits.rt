@@ -1,6 +1,7 @@
 // Place D: whether there is room for an effect.
-ghost use Rattle.std.specs.Prelude.{◌≡◌, ◌+◌, ◌-◌, ◌≤◌, ◌<◌, length};
-ghost use Rattle.choices.specs.Choice.{first_of, above_of};
+ghost use Rattle.std.specs.Prelude.{◌≡◌, ◌+◌, ◌-◌, ◌≤◌, ◌<◌, ◌==◌, length, is_ok};
+ghost use Rattle.std.specs.List.{list_any};
+ghost use Rattle.choices.specs.Choice.{cond, first_of, above_of};
 ghost use Rattle.machine.specs.Ram.{cells};
 ghost use Rattle.machine.specs.Apply.{touched, jumps_after as jumps_by};
 ghost use Rattle.machine.specs.Lent.{seen};
@@ -9,7 +10,7 @@ ghost use Rattle.machine_ram.specs.LentCells.{cells_of};
 ghost use Rattle.machine_effects.specs.EffectView.{jump_of, accesses_of, first_accesses};
 ghost use Rattle.machine_effects.specs.declared.effect.Direction.TheVariants.{Write};
 ghost use Rattle.machine_isa.specs.FewWords.{words_of};
-ghost use Rattle.machine_perform.specs.PerformView.{among_of, new_of, fresh_of, Fit, Limited};
+ghost use Rattle.machine_perform.specs.PerformView.{new_of, fresh_of, Fit, Limited};
 
 use machine::lent::SeenMemory;
 use machine::refusal::PlaceD;
@@ -29,55 +30,40 @@ pub fn jumps_after(n: usize, change: JumpChange) -> usize
     }
 }
 
-// Whether an address is one of the first n.
-fn among(writes: &[Access], n: usize, address: u64) -> bool
-    requires { n ≤ length writes.now }
-    ensures { result ≡ among_of writes.now n address }
+// Whether one of these writes has an address.
+fn among(writes: &[Access], address: u64) -> bool
+    ensures { result ≡ list_any (λ write. write.address == address) writes.now }
 {
-    for i in 0..n {
-        if writes[i].address == address {
-            return true;
-        }
-    }
-    false
+    writes.iter().any(|write| write.address == address)
 }
 
-// How many cells a write adds, and the place of its address or a guess at it.
-#[derive(Clone, Copy)]
-struct Added {
-    cells: usize,
-    place: usize,
-}
-
-// One where the address of write i has no cell, and no write before it has the same.
-fn new_cell(ram: &Ram<'_>, writes: &[Access], i: usize, guess: usize) -> Added
+// The place of the address of write i, or a guess at it: an error where the write adds a cell, since the address has none and no write
+// before it has the same.
+fn new_cell(ram: &Ram<'_>, writes: &[Access], i: usize, guess: usize) -> Result<usize, usize>
     requires { i < length writes.now }
-    ensures { result.cells ≡ new_of ram.now.addresses.now ram.now.count writes.now i }
+    ensures { cond (is_ok result) 0 1 ≡ new_of ram.now.addresses.now ram.now.count writes.now i }
 {
     let address = writes[i].address;
-    if among(writes, i, address) {
-        return Added {
-            cells: 0,
-            place: guess,
-        };
+    if among(&writes[..i], address) {
+        return Ok(guess);
     }
-    match ram.find_near(address, guess) {
-        Ok(place) => Added { cells: 0, place },
-        Err(place) => Added { cells: 1, place },
-    }
+    ram.find_near(address, guess)
 }
 
-// How many cells the first n writes add; they are looked for as write_row does.
-fn fresh(ram: &Ram<'_>, writes: &[Access], n: usize) -> usize
-    requires { n ≤ length writes.now }
-    ensures { result ≡ fresh_of ram.now.addresses.now ram.now.count writes.now n }
+// How many cells the writes add; they are looked for as write_row does.
+fn fresh(ram: &Ram<'_>, writes: &[Access]) -> usize
+    ensures { result ≡ fresh_of ram.now.addresses.now ram.now.count writes.now (length writes.now) }
 {
     let mut more = 0;
     let mut guess = ram.count;
-    for i in 0..n {
-        let added = new_cell(ram, writes, i, guess);
-        more += added.cells;
-        guess = added.place;
+    for i in 0..writes.len() {
+        match new_cell(ram, writes, i, guess) {
+            Ok(place) => guess = place,
+            Err(place) => {
+                guess = place;
+                more += 1;
+            }
+        }
     }
     more
 }
@@ -90,15 +76,15 @@ fn check_room(needed: usize, most: usize, error: PlaceD) -> Result<(), PlaceD>
     if most < needed { Err(error) } else { Ok(()) }
 }
 
-// The cells that the first n writes need. Addresses are looked for only where the table is nearly full.
-fn check_writes(ram: &Ram<'_>, writes: &[Access], n: usize) -> Result<(), PlaceD>
-    requires { (n ≤ length writes.now) × (n ≤ 10) × (length ram.now.addresses.now ≤ 16777216) × (length ram.now.addresses.now ≡ length ram.now.values.now) }
-    ensures { found_d result ≡ above_of (touched (cells_of ram.now) (first_accesses Write writes.now n)).count (length ram.now.addresses.now) 32 }
+// The cells that writes need. Addresses are looked for only where the table is nearly full.
+fn check_writes(ram: &Ram<'_>, writes: &[Access]) -> Result<(), PlaceD>
+    requires { (length writes.now ≤ 10) × (length ram.now.addresses.now ≤ 16777216) × (length ram.now.addresses.now ≡ length ram.now.values.now) }
+    ensures { found_d result ≡ above_of (touched (cells_of ram.now) (first_accesses Write writes.now (length writes.now))).count (length ram.now.addresses.now) 32 }
 {
-    if ram.count + n <= ram.addresses.len() {
+    if ram.count + writes.len() <= ram.addresses.len() {
         return Ok(());
     }
-    let more = fresh(ram, writes, n);
+    let more = fresh(ram, writes);
     check_room(ram.count + more, ram.addresses.len(), PlaceD::RamFull)
 }
 
@@ -109,7 +95,7 @@ fn check_cells(ram: &Ram<'_>, accesses: &Accesses) -> Result<(), PlaceD>
 {
     match accesses.direction {
         Direction::Read => Ok(()),
-        Direction::Write => check_writes(ram, &accesses.cells, accesses.count),
+        Direction::Write => check_writes(ram, accesses.as_slice()),
     }
 }
 
@@ -138,6 +124,7 @@ fn first_full(state: &VMState, effect: &Effect, memory: &SeenMemory<'_>) -> Resu
     check_room(state.clock as usize, 4294967294, PlaceD::ClockAtEnd)
 }
 
+// The same said of the machine, whatever its program is.
 pub fn limits(state: &VMState, effect: &Effect, memory: &SeenMemory<'_>) -> Result<(), PlaceD>
     requires { Fit state.now effect.now (seen memory.now) }
     ensures { Limited state.now effect.now (seen memory.now) result }

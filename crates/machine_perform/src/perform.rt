@@ -2,7 +2,7 @@
 ghost use Rattle.std.specs.Prelude.{◌≡◌, ◌+◌, ◌-◌, ◌≤◌, length, set};
 ghost use Rattle.machine.specs.Ram.{cells};
 ghost use Rattle.machine.specs.Lent.{memory_of, Keeps};
-ghost use Rattle.machine.specs.Apply.{put, applied_stack, touched, origins_after, destinations_after};
+ghost use Rattle.machine.specs.Apply.{put, touched, origins_after, destinations_after};
 ghost use Rattle.machine_ram.specs.LentCells.{cells_of_mut, Keeps as KeepsRam};
 ghost use Rattle.machine_isa.specs.FewWords.{words_of};
 ghost use Rattle.machine_effects.specs.declared.effect.Direction.TheVariants.{Write};
@@ -46,36 +46,29 @@ fn change_jumps(origins: &mut [u64], destinations: &mut [u64], n: usize, change:
     }
 }
 
-// The first n writes of RAM, in order. The first is looked for at the end, each other beside the one before.
-fn write_row(ram: &mut RamMut<'_>, writes: &[Access], n: usize)
-    requires { WritesRow (cells_of_mut ram.old) writes.now n }
-    ensures touched { cells_of_mut ram.new ≡ touched (cells_of_mut ram.old) (first_accesses Write writes.now n) }
+// Writes of RAM, in order. The first is looked for at the end, each other beside the one before.
+fn write_row(ram: &mut RamMut<'_>, writes: &[Access])
+    requires { WritesRow (cells_of_mut ram.old) writes.now }
+    ensures touched { cells_of_mut ram.new ≡ touched (cells_of_mut ram.old) (first_accesses Write writes.now (length writes.now)) }
     ensures lent { KeepsRam ram.old ram.new }
 {
     let mut guess = ram.count;
-    for i in 0..n {
-        let access = writes[i];
-        guess = ram.write_near(access.address, access.value, guess);
+    for write in writes {
+        guess = ram.write_near(write.address, write.value, guess);
     }
 }
 
 // The same of two slices; gives how many cells are used then.
-fn write_cells(
-    addresses: &mut [u64],
-    values: &mut [u64],
-    count: usize,
-    writes: &[Access],
-    n: usize,
-) -> usize
-    requires { WritesRow (cells count addresses.old values.old) writes.now n }
-    ensures { cells result addresses.new values.new ≡ touched (cells count addresses.old values.old) (first_accesses Write writes.now n) }
+fn write_cells(addresses: &mut [u64], values: &mut [u64], count: usize, writes: &[Access]) -> usize
+    requires { WritesRow (cells count addresses.old values.old) writes.now }
+    ensures { cells result addresses.new values.new ≡ touched (cells count addresses.old values.old) (first_accesses Write writes.now (length writes.now)) }
 {
     let mut ram = RamMut {
         addresses,
         values,
         count,
     };
-    write_row(&mut ram, writes, n);
+    write_row(&mut ram, writes);
     ram.count
 }
 
@@ -86,16 +79,8 @@ fn write_all(addresses: &mut [u64], values: &mut [u64], count: usize, accesses: 
 {
     match accesses.direction {
         Direction::Read => count,
-        Direction::Write => write_cells(addresses, values, count, &accesses.cells, accesses.count),
+        Direction::Write => write_cells(addresses, values, count, accesses.as_slice()),
     }
-}
-
-// The op stack after words are taken off and others put on.
-fn put_words(stack: &mut [u64], depth: usize, pops: usize, words: &Few<16>)
-    requires { (pops ≤ depth) × (depth ≤ length stack.old) × (depth - pops + length (words_of words.now) ≤ length stack.old) }
-    ensures { stack.new ≡ applied_stack stack.old depth pops (words_of words.now) }
-{
-    apply(stack, depth, pops, words);
 }
 
 // Puts words behind those that are out.
@@ -141,7 +126,7 @@ pub fn perform(
     ensures performed { Performed state.now effect.now pointer sponge.now (memory_of memory.old) result (memory_of memory.new) }
     ensures lent { Keeps memory.old memory.new }
 {
-    put_words(memory.op_stack, state.depth, effect.pops, &effect.words);
+    apply(memory.op_stack, state.depth, effect.pops, &effect.words);
     change_jumps(
         memory.origins,
         memory.destinations,
@@ -165,7 +150,5 @@ pub fn drop_top(state: &VMState, op_stack: &mut [u64]) -> VMState
 {
     let depth = state.depth - 1;
     store(op_stack, depth, 0);
-    let mut next = *state;
-    next.depth = depth;
-    next
+    VMState { depth, ..*state }
 }

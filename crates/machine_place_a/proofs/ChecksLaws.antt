@@ -5,11 +5,12 @@ use mathlib.Core.List.{List}
 use Prim.Native.Nat.{ℕ, zero, suc, ◌+◌, ◌-◌, ◌≤◌, ◌<◌, min}
 use native.Mathlib.Numerals.{add-one}
 use native.Mathlib.Omega.{arith}
-use borrow.Author.Tests.{eqb-true, eqb-false, ltb-true, ltb-false}
-use lib.ListN.{length, get_or, take}
-use lib.Seq.{get_or-take, length-take-le}
+use borrow.Author.Tests.{ne_eqb, lt-ltb, eqb-true, eqb-false, ltb-true, ltb-false}
+use lib.ListN.{length, get_or, take, drop, length-drop}
+use lib.Seq.{get_or-take, length-take-le, take_all}
 use lib.Dec.{eqb, ltb}
 use Rattle.std.specs.Prelude.{Result, Ok, Err}
+use Rattle.std.proofs.lemmas.List.{get_or-drop}
 use Rattle.std.specs.Result.{result_and}
 use Rattle.machine.specs.declared.refusal.PlaceA.{PlaceA}
 use Rattle.machine.specs.Refusal.{number_a, found_a}
@@ -20,7 +21,7 @@ use Rattle.machine.specs.Instruction.{decode}
 use Rattle.machine.specs.Machine.{Code}
 use Rattle.machine.specs.PlaceA.{unknown3, argument4, opcodes3, arguments4, code34}
 use Rattle.machine.proofs.Refused.{number_a_some}
-use Rattle.choices.proofs.Choice.{first_zero, first-left, above-not, above-is}
+use Rattle.choices.proofs.Choice.{first_zero, first-left}
 
 -- ---- loops
 
@@ -68,36 +69,40 @@ words_used s n r e =
 
 -- ---- unused words
 
--- place i is the one after i - n places from n on
-at_place : (n i : ℕ) → n ≤ i → n + (i - n) ≡ i
-at_place n i l = omega arith
-
-zeros_turn : (s : List ℕ) (n k : ℕ) → zeros_from s n (suc k) ≡ first_of (zeros_from s n k) (above_of (get_or s (n + k) 0) 0 5)
-unfolding zeros_from
-zeros_turn s n k = refl
-
-pub zeros_more : (s : List ℕ) (n i : ℕ) → n ≤ i → zeros_from s n (i - n) ≡ 0 → get_or s i 0 ≤ 0 → zeros_from s n (i + 1 - n) ≡ 0
-zeros_more s n i l h k =
-    let e : i + 1 - n ≡ i - n + 1 = omega arith in
-    rw e (scan_more (zeros_from s n) _ (zeros_turn s n) (i - n) h (rw (at_place n i l) (above-not (get_or s i 0) 0 5 k)))
-
-pub zeros_stop : (s : List ℕ) (n i : ℕ) → n ≤ i → i < length s → zeros_from s n (i - n) ≡ 0 → 0 < get_or s i 0 → zeros_from s n (length s - n) ≡ 5
-zeros_stop s n i l m h k =
-    scan_stop (zeros_from s n) _ (zeros_turn s n) (i - n) (length s - n) 5 (omega arith) (omega arith) h (rw (at_place n i l) (above-is (get_or s i 0) 0 5 k))
-
--- nothing is left, or nothing was to be looked at
-pub zeros_end : (s : List ℕ) (n i : ℕ) → (n ≤ length s → i ≤ length s) → length s ≤ i → zeros_from s n (i - n) ≡ 0 → 0 ≡ zeros_from s n (length s - n)
-unfolding zeros_from
-zeros_end s n i m l h = go (ltb n (length s)) refl
+-- whether so many are 0, and one more
+pub zeros_all : (b : Bool) (s : List ℕ) (i : ℕ) → cond b 0 5 ≡ zeros_from s 0 i → cond (b && eqb (get_or s i 0) 0) 0 5 ≡ zeros_from s 0 (i + 1)
+unfolding zeros_from first_of above_of
+zeros_all true s i h = let z : 0 + i ≡ i = omega arith in rw (add-one i, ← h, z) (go (get_or s i 0))
   where
-    go : (b : Bool) → ltb n (length s) ≡ b → 0 ≡ zeros_from s n (length s - n)
-    go true e =
-        let k : i ≤ length s = m (omega (arith, ltb-true n (length s) e)) in
-        let j : length s ≡ i = omega arith in
-        rw j (sym h)
-    go false e =
-        let k : length s - n ≡ 0 = omega (arith, ltb-false n (length s) e) in
-        rw k refl
+    go : (x : ℕ) → ◌≡◌ {A = ℕ} (cond (eqb x 0) 0 5) (cond (ltb 0 x) 5 0)
+    go zero = refl
+    go (suc x) = rw (ne_eqb (suc x) 0 (λ z. omega arith), lt-ltb 0 (suc x) (omega arith)) refl
+zeros_all false s i h = rw (add-one i, ← h) refl
+
+zeros_none : (s : List ℕ) (m n : ℕ) → zeros_from s m 0 ≡ zeros_from s n 0
+unfolding zeros_from
+zeros_none s m n = refl
+
+-- from place m on
+zeros_drop : (s : List ℕ) (m n : ℕ) → zeros_from (drop m s) 0 n ≡ zeros_from s m n
+unfolding zeros_from
+zeros_drop s m zero = refl
+zeros_drop s m (suc n) = let z : 0 + n ≡ n = omega arith in rw (zeros_drop s m n, z, get_or-drop m s n 0) refl
+
+zeros_unused : (s : List ℕ) (n m : ℕ) → m ≡ min (length s) n → zeros_from (take (length s - m) (drop m s)) 0 (length (take (length s - m) (drop m s))) ≡ zeros_from s n (length s - n)
+zeros_unused s n m e =
+    rw (take_all (length s - m) (drop m s) (rw length-drop (omega arith)), length-drop, zeros_drop s m (length s - m)) (go (ltb n (length s)) refl)
+  where
+    go : (b : Bool) → ltb n (length s) ≡ b → zeros_from s m (length s - m) ≡ zeros_from s n (length s - n)
+    go true t = let k : m ≡ n = omega (arith, ltb-true n (length s) t) in rw k
+    go false t =
+        let k : length s - m ≡ 0 = omega (arith, ltb-false n (length s) t) in
+        let q : length s - n ≡ 0 = omega (arith, ltb-false n (length s) t) in
+        rw (k, q) (zeros_none s m n)
+
+-- behind the last, where b is the answer
+pub zeros_end : (s : List ℕ) (n m i : ℕ) {b t : Bool} → m ≡ min (length s) n → i ≡ length (take (length s - m) (drop m s)) → b ≡ t → cond b 0 5 ≡ zeros_from (take (length s - m) (drop m s)) 0 i → cond t 0 5 ≡ zeros_from s n (length s - n)
+zeros_end s n m i e f g h = rw (g, f) at h ∙ zeros_unused s n m e
 
 -- ---- slots
 

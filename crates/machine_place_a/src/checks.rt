@@ -2,13 +2,13 @@
 #![tactic(auto, unfolding(choices::specs::Choice::first_of, choices::specs::Choice::above_of, choices::specs::Choice::differ_of))]
 
 ghost use Rattle.std.specs.Prelude.{◌≡◌, [] as Nil, ◌-◌, ◌/◌, ◌≤◌, length, OnOk};
-ghost use Rattle.choices.specs.Choice.{first_of, first_in, above_of, differ_of};
-ghost use Rattle.machine.specs.Refusal.{found_a};
+ghost use Rattle.choices.specs.Choice.{first_of, above_of, differ_of};
+ghost use Rattle.machine.specs.Refusal.{number_a, found_a};
 ghost use Rattle.machine.specs.Words.{word_of2, words_of};
 ghost use Rattle.machine.specs.Ram.{cells as cells_of, cells1, cells2, cells5, falls_of};
 ghost use Rattle.machine.specs.Machine.{machine, code};
 ghost use Rattle.machine.specs.Lent.{code_of, seen};
-ghost use Rattle.machine.specs.PlaceA.{longest, too_long, most_bytes, code1, memory1, code2, used2, machine2, code34, revision4, unused5, machine5, machine_a, open_a};
+ghost use Rattle.machine.specs.PlaceA.{longest, most_bytes, code1, memory1, code2, used2, machine2, code34, revision4, unused5, machine5, machine_a, open_a};
 
 use field::base::P;
 use machine::lent::{LentCode, SeenMemory};
@@ -22,14 +22,17 @@ const LONGEST: usize = 16777216;
 
 // ---- 1: lengths
 
+// No more than there may be, or this error.
+pub fn check_at_most(count: usize, most: usize, error: PlaceA) -> Result<(), PlaceA>
+    ensures { found_a result ≡ above_of count most (number_a error) }
+{
+    if most < count { Err(error) } else { Ok(()) }
+}
+
 pub fn check_length(len: usize) -> Result<(), PlaceA>
     ensures { found_a result ≡ above_of len longest 1 }
 {
-    if LONGEST < len {
-        Err(PlaceA::BadShape)
-    } else {
-        Ok(())
-    }
+    check_at_most(len, LONGEST, PlaceA::BadShape)
 }
 
 // Slices that go together are as long.
@@ -40,16 +43,6 @@ pub fn check_pair(a: usize, b: usize) -> Result<(), PlaceA>
         Ok(())
     } else {
         Err(PlaceA::BadShape)
-    }
-}
-
-fn check_least(least: usize, len: usize) -> Result<(), PlaceA>
-    ensures { found_a result ≡ above_of least len 1 }
-{
-    if len < least {
-        Err(PlaceA::BadShape)
-    } else {
-        Ok(())
     }
 }
 
@@ -84,7 +77,7 @@ fn check_memory_lengths(memory: &SeenMemory<'_>) -> Result<(), PlaceA>
     ensures { found_a result ≡ memory1 (seen memory.now) }
 {
     check_length(memory.op_stack.len())?;
-    check_least(16, memory.op_stack.len())?;
+    check_at_most(16, memory.op_stack.len(), PlaceA::BadShape)?;
     check_length(memory.origins.len())?;
     check_length(memory.destinations.len())?;
     check_pair(memory.origins.len(), memory.destinations.len())?;
@@ -97,7 +90,7 @@ pub fn check_buffer(revision: u64, len: usize) -> Result<(), PlaceA>
     ensures { found_a result ≡ first_of (above_of len longest 1) (above_of (most_bytes revision) len 1) }
 {
     check_length(len)?;
-    check_least(instruction::most_bytes(revision), len)
+    check_at_most(instruction::most_bytes(revision), len, PlaceA::BadShape)
 }
 
 // ---- 2: words
@@ -171,7 +164,8 @@ fn check_machine_words(
 
 // ---- 3 and 4: slots and the revision
 
-// One pass serves both: an unknown opcode anywhere comes before an argument that is not allowed.
+// One pass serves both: an unknown opcode anywhere comes before an argument that is not allowed. Arguments are taken by index: with
+// `zip` the loop knows both slices by their iterators alone, and the proof did not close.
 fn check_slots(code: &LentCode<'_>) -> Result<(), PlaceA>
     requires { length code.now.opcodes.now ≤ length code.now.arguments.now }
     ensures { found_a result ≡ code34 (code_of code.now) }
@@ -196,26 +190,16 @@ pub fn check_revision(revision: u64) -> Result<(), PlaceA>
 
 // ---- 5: depth, counts and positions, and what is not used
 
-fn check_count(count: usize, most: usize) -> Result<(), PlaceA>
-    ensures { found_a result ≡ above_of count most 5 }
-{
-    if most < count {
-        Err(PlaceA::BadState)
-    } else {
-        Ok(())
-    }
-}
-
-// What stands at place `used` and behind it is 0.
+// What stands at place `used` and behind it is 0. Each word is looked at, as in check_words.
 pub fn check_unused(words: &[u64], used: usize) -> Result<(), PlaceA>
     ensures { found_a result ≡ unused5 words.now used }
 {
-    for i in used..words.len() {
-        if words[i] != 0 {
-            return Err(PlaceA::BadState);
-        }
+    let unused = &words[words.len().min(used)..];
+    let mut good = true;
+    for word in unused {
+        good &= *word == 0;
     }
-    Ok(())
+    if good { Ok(()) } else { Err(PlaceA::BadState) }
 }
 
 fn check_ascending(addresses: &[u64], count: usize) -> Result<(), PlaceA>
@@ -234,7 +218,7 @@ fn check_ascending(addresses: &[u64], count: usize) -> Result<(), PlaceA>
 pub fn check_cells(addresses: &[u64], count: usize) -> Result<(), PlaceA>
     ensures { found_a result ≡ cells5 (cells_of count addresses.now Nil) }
 {
-    check_count(count, addresses.len())?;
+    check_at_most(count, addresses.len(), PlaceA::BadState)?;
     check_ascending(addresses, count)
 }
 
@@ -242,13 +226,13 @@ pub fn check_cells(addresses: &[u64], count: usize) -> Result<(), PlaceA>
 fn check_state(state: &VMState, code: &LentCode<'_>, memory: &SeenMemory<'_>) -> Result<(), PlaceA>
     ensures { found_a result ≡ machine5 (machine state.now (code_of code.now) (seen memory.now)) }
 {
-    check_count(16, state.depth)?;
-    check_count(state.depth, memory.op_stack.len())?;
-    check_count(state.jumps, memory.origins.len())?;
-    check_count(state.outputs, memory.output.len())?;
-    check_count(state.publics, code.public.len())?;
-    check_count(state.secrets, code.secret.len())?;
-    check_count(state.digests, code.digests.len() / 5)?;
+    check_at_most(16, state.depth, PlaceA::BadState)?;
+    check_at_most(state.depth, memory.op_stack.len(), PlaceA::BadState)?;
+    check_at_most(state.jumps, memory.origins.len(), PlaceA::BadState)?;
+    check_at_most(state.outputs, memory.output.len(), PlaceA::BadState)?;
+    check_at_most(state.publics, code.public.len(), PlaceA::BadState)?;
+    check_at_most(state.secrets, code.secret.len(), PlaceA::BadState)?;
+    check_at_most(state.digests, code.digests.len() / 5, PlaceA::BadState)?;
     check_unused(memory.op_stack, state.depth)?;
     check_unused(memory.origins, state.jumps)?;
     check_unused(memory.destinations, state.jumps)?;

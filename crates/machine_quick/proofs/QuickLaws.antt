@@ -29,9 +29,10 @@ use Rattle.machine.proofs.Facts.{facts}
 use Rattle.machine_log.proofs.Logged.{records_after}
 use Rattle.machine_quick.specs.declared.quick.QuickStep.{QuickStep}
 use Rattle.machine_decide.specs.declared.handed.Handed.{Handed}
-use Rattle.machine_decide.specs.DecideView.{act_in, StandsOn, Shows}
+use Rattle.machine_decide.specs.DecideView.{act_in, plain_alike, StandsOn, InSlot, Shows}
+use Rattle.machine_decide.proofs.DecideLaws.{shows_alike}
 use Rattle.machine_decide.specs.PlaceBView.{place_b}
-use Rattle.machine_quick.specs.QuickView.{ActedQuick, Still, Shift, Changing, Changed, onward_as, onward_to, Walking, StepsTo, Quicked}
+use Rattle.machine_quick.specs.QuickView.{ActedQuick, with_stack, Still, Shift, Changing, Changed, onward_as, onward_to, Walking, StepsTo, Quicked}
 use Rattle.machine_step.proofs.AdvanceLaws.{pointer_is}
 use Rattle.machine_decide.proofs.PlaceBLaws.{b_passes}
 
@@ -93,19 +94,23 @@ pub refused-not : {x : Refused} {e : CodeEffect} → ◌≡◌ {A = Result CodeE
 refused-not h = let z : ◌≡◌ {A = ℕ} 0 1 = cc in absurd (omega arith)
 
 module _ {m : Machine} (h : Walking m) (is : 0 ≡ place_b m.state m.code.opcodes m.code.arguments) where
-  pub quick_stands : StandsOn m
-  quick_stands = record { sound = h.sound; inside = (b_passes m h.sound.deep is refl).0 }
+  abbrev alike : Machine
+  alike = plain_alike m h.digests h.output
 
-  module _ {x : Handed} {e : CodeEffect} {r : Result CodeEffect Refused} (s : Shows m x) (k : ActedQuick x r) (t : r ≡ Ok e) where
-    quick_decides : decide_of m ≡ acts (effect_of e)
+  pub quick_stands : StandsOn m
+  quick_stands = record { digests = h.digests; output = h.output; sound = h.sound; inside = (b_passes alike h.sound.deep is refl).0 }
+
+  module _ {x : Handed} {e : CodeEffect} {r : Result CodeEffect Refused} (i : InSlot m x) (s : Shows m x) (k : ActedQuick x r) (t : r ≡ Ok e) where
+    quick_decides : (digests output : List ℕ) → Sound (plain_alike m digests output) → decide_of (plain_alike m digests output) ≡ acts (effect_of e)
     unfolding decision_of
-    quick_decides =
-        (b_passes m h.sound.deep is refl).1 ∙ (rw (s.opcode, s.argument) (sym ((k.is e t).is m s))) ∙ ap decision_of t
+    quick_decides digests output sound =
+        let y = plain_alike m digests output in
+        (b_passes y sound.deep is refl).1 ∙ (rw (i.opcode, i.argument) (sym ((k.is e t).is y (shows_alike m x digests output s)))) ∙ ap decision_of t
 
     pub quick_changing : Changing m.state e m.memory.op_stack
     unfolding effect_of
     quick_changing =
-        let f = facts m h.sound (effect_of e) quick_decides in
+        let f = facts alike h.sound (effect_of e) (quick_decides h.digests h.output h.sound) in
         record {
           pops = omega (arith, f.pops, h.sound.deep);
           grows = omega (arith, f.grows, length-take-le e.words.count e.words.words e.words.fits);
@@ -114,7 +119,7 @@ module _ {m : Machine} (h : Walking m) (is : 0 ≡ place_b m.state m.code.opcode
           pointer = omega (arith, quick_stands.inside, h.sound.code.slots_few);
         }
 
-    pub quick_done : (q : Option QuickStep) (w : List ℕ) → Changed m.state e (opcode_of m) m.memory.op_stack q w →
-        Quicked m q (memory w m.memory.origins m.memory.destinations m.memory.addresses m.memory.values m.memory.output)
-    quick_done (Some q) w g = shifts m e q w h.sound h.on quick_decides g
-    quick_done None w g = ap (λ (s : List ℕ). memory s m.memory.origins m.memory.destinations m.memory.addresses m.memory.values m.memory.output) g
+    pub quick_done : (q : Option QuickStep) (w : List ℕ) → Changed m.state e (opcode_of m) m.memory.op_stack q w → Quicked m q (with_stack m.memory w)
+    quick_done (Some q) w g =
+        record { rest = refl; steps = λ digests output sound. shifts (plain_alike m digests output) e q w sound h.on (quick_decides digests output sound) g }
+    quick_done None w g = ap (with_stack m.memory) g

@@ -16,7 +16,7 @@ use Rattle.machine.specs.Step.{records_in, outcome_by}
 use Rattle.machine.specs.Sound.{Sound}
 use Rattle.machine_quick.specs.declared.quick.QuickStep.{QuickStep}
 use Rattle.machine_decide.specs.declared.handed.Handed.{Handed}
-use Rattle.machine_decide.specs.DecideView.{Acted}
+use Rattle.machine_decide.specs.DecideView.{Acted, plain_alike}
 use Rattle.machine_step.specs.AdvanceView.{goes_from}
 
 -- ---- deciding: as DecideView has it, where there is an effect
@@ -84,9 +84,11 @@ onward_as s r halts =
 abbrev pub onward_to : VMState → QuickStep → VMState
 onward_to s r = onward_as s r s.halted
 
--- a sound machine that is not halted
+-- a sound machine that is not halted; its digests and output, which a quick step does not look at, may be anything
 pub record Walking (m : Machine) : Type 0 where
-  pub sound : Sound m
+  pub digests : List ℕ
+  pub output : List ℕ
+  pub sound : Sound (plain_alike m digests output)
   pub on : m.state.halted ≡ false
 
 -- it is the step of m, which changes the op stack alone of memory, and the op stack's records are all that it has
@@ -95,7 +97,16 @@ pub record StepsTo (m : Machine) (r : QuickStep) (n : Memory) : Type 0 where
   pub outcome : outcome_by decide_of m ≡ took (machine (onward_to m.state r) m.code n)
   pub records : records_in m (decide_of m) ≡ stack_records m.state.clock n.op_stack n.op_stack m.state.depth r.depth
 
--- where it is taken; else nothing is changed
+-- memory of which only the op stack is another
+abbrev pub with_stack : Memory → List ℕ → Memory
+with_stack m s = memory s m.origins m.destinations m.addresses m.values m.output
+
+-- where it is taken, it is the step of m and of all that are alike and sound; else nothing is changed
+pub record Taken (m : Machine) (r : QuickStep) (n : Memory) : Type 0 where
+  pub rest : n ≡ with_stack m.memory n.op_stack
+  pub steps : (digests output : List ℕ) → Sound (plain_alike m digests output) →
+      StepsTo (plain_alike m digests output) r (with_stack (plain_alike m digests output).memory n.op_stack)
+
 abbrev pub Quicked : Machine → Option QuickStep → Memory → Type 0
-Quicked m (Some r) n = StepsTo m r n
+Quicked m (Some r) n = Taken m r n
 Quicked m None n = n ≡ m.memory

@@ -6,6 +6,7 @@ use Rattle.std.proofs.Math.Seq.{paste, paste-zero, take-suc}
 use borrow.Author.Tests.{eqb-false}
 use Rattle.choices.specs.Choice.{cond, first_of}
 use Rattle.machine_ram.specs.RamView.{Ordered, Spotted, Looked, Above, Below, Guessed, Room, Stored}
+use Rattle.machine.proofs.Moves.{moved_before}
 use Rattle.machine.specs.Ram.{Cells, cells, at, absent, place_from, place_of, find, held, moved_up, inserted, stored, fall_of, falls_of}
 use Rattle.machine.proofs.RamLaws.{place_within, place_before, place_here, ascending_rises, stands-is, stands-not, find_at, find_absent, stored_addresses, falls_fine, falls_nil, stored-ascending}
 
@@ -150,23 +151,24 @@ guess-found {s} {n} {a} {i} q h e = record { is = λ v. found_here s v n a i (q.
 pub guess-absent : {s : List ℕ} {n a i : ℕ} → Guessed s n a i true → (i < n → get_or s i 0 ≡ a → ⊥) → Looked s n a (Err i)
 guess-absent {s} {n} {a} {i} q h = record { is = λ v. found-not s v n a i (q.is refl) h; place = q.within refl }
 
--- ---- moving up by one: a copy one place on
+-- ---- moving up by one, the last first
 
-moved_pasted : (s : List ℕ) (i n : ℕ) → i + n < length s → moved_up s i n ≡ paste s (i + 1) (drop i s) n
+pub moved_none : (s : List ℕ) (n : ℕ) → s ≡ moved_up s n (n - n)
 unfolding moved_up
-moved_pasted s i zero h = paste-zero s (i + 1) (drop i s)
-moved_pasted s i (suc n) h =
-    let x : suc i ≡ i + 1 = omega arith in
-    let y : suc i + 1 ≡ suc (i + 1) = omega arith in
-    let z : i + 1 + suc n ≡ suc (i + 1) + n = omega arith in
-    let t = take-suc s (i + 1) 0 (omega arith) in
-    let l : length (take (i + 1) s) ≡ i + 1 = length-take-le (i + 1) s (omega arith) in
-    rw (moved_pasted s (suc i) n (omega arith), y, t, x, z, drop-cons s i 0 (omega arith), x)
-    (simp append_assoc (set_at (take (i + 1) s) _ _ _ (i + 1) l))
+moved_none s n = let e : n - n ≡ 0 = omega arith in rw e
 
-pub inserted_pasted : (s : List ℕ) (n i x : ℕ) → i ≤ n → n < length s → set (copy_within s i n (i + 1)) i x ≡ inserted s n i x
-unfolding inserted
-inserted_pasted s n i x h l = ap (λ (r : List ℕ). set r i x) (sym (moved_pasted s i (n - i) (omega arith)))
+pub moved_one : (s t : List ℕ) (n k : ℕ) → 0 < k → k ≤ n → t ≡ moved_up s k (n - k) → set t k (get_or t (k - 1) 0) ≡ moved_up s (k - 1) (n - (k - 1))
+unfolding moved_up
+moved_one s t n k l h e =
+    let m : n - (k - 1) ≡ suc (n - k) = omega arith in
+    let w : suc (k - 1) ≡ k = omega arith in
+    rw (e, m, w, moved_before s k (n - k) (k - 1) (omega arith))
+
+pub moved_all : (s t : List ℕ) (n k : ℕ) → k ≤ 0 → t ≡ moved_up s k (n - k) → t ≡ moved_up s 0 n
+moved_all s t n k h e =
+    let z : k ≡ 0 = omega arith in
+    let w : n - 0 ≡ n = omega arith in
+    rw w at (rw z at e)
 
 -- ---- neighbours
 

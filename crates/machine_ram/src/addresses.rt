@@ -109,6 +109,7 @@ impl Addresses<'_> {
     // The same with a guess at the place: a row of accesses hands on the place it had, and a neighbouring address stands there
     // or beside it. Any guess does, because it is tested, so that a row has nothing to prove of its guesses. A search is made
     // only where the guess and the places beside it are wrong.
+    #[inline]
     pub fn find_near(&self, address: u64, guess: usize) -> Result<usize, usize>
         ensures { Looked self.now.words.now self.now.count address result }
     {

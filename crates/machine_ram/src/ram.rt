@@ -1,5 +1,5 @@
-// RAM as it is read: addresses and values in two slices, of which the first `count` places are used, ascending by address. C lends
-// two slices, and a search reads the addresses alone, so these are no pairs.
+// RAM as it is read: addresses and values in two slices, as C lends them, of which the first `count` places are used, ascending by
+// address. A search reads the addresses alone, so these are no pairs.
 ghost use Rattle.std.specs.Prelude.{◌≡◌, ◌-◌, ◌≤◌, length};
 ghost use Rattle.choices.specs.Choice.{cond};
 ghost use Rattle.machine.specs.Ram.{cells, falls_of};

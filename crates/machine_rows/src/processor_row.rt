@@ -134,7 +134,7 @@ pub fn write_row(row: &mut [u64], state: &VMState, code: &LentCode<'_>, memory: 
     );
 }
 
-// The row of a machine, where rows are asked for.
+// The row of a machine, where rows are asked for: `asked` stands beside the row as `recording` beside its buffer, and machine_step's `advance` says why.
 pub fn take_row(
     asked: bool,
     row: &mut [u64],

@@ -136,7 +136,8 @@ fn advance_plain(
     }
 }
 
-// An instruction with a trace, or sponge_init.
+// An instruction with a trace, or sponge_init. A function for each way: one for both would be handed what decides, with its clauses, and has a sponge and what
+// is recorded besides to choose.
 fn advance_hashing(
     recording: bool,
     state: &VMState,

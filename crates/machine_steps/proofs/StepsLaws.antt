@@ -39,7 +39,7 @@ use Rattle.machine_log.proofs.Logged.{logged_none, logged-front, logged-logged, 
 use Rattle.machine_perform.specs.declared.answer.Stepped.{Stepped}
 use Rattle.machine_perform.specs.AnswerView.{did, turned, answer_in, Gives}
 use Rattle.machine_quick.specs.declared.quick.QuickStep.{QuickStep}
-use Rattle.machine_quick.specs.QuickView.{onward_to, StepsTo}
+use Rattle.machine_quick.specs.QuickView.{onward_to, StepsTo, Taken}
 use Rattle.machine_rows.specs.RowView.{RowTaken, RowPut}
 use Rattle.machine_step.specs.AdvanceView.{advanced_by, Advanced}
 use Rattle.machine_step.specs.RecordsView.{RoomyAt, RecordedAt}
@@ -155,7 +155,10 @@ module _ {t : Bool} {m : Machine} {b : List ℕ} {at : ℕ} (h : StandingAt t m 
   own-within : (x : Machine) → outcome_by decide_of m ≡ took x → at + length (own_log t m) ≤ length b
   own-within x e = own-there t (step_log decide_of m) at (most_bytes m.state.revision) (length b) (took-log m x h.sound e) h.within h.room
 
-  -- a quick one
+  -- a quick one: the machine that is lent is one of those that are alike
+  pub quick_taken : {r : QuickStep} {n : Memory} → Taken m r n → StepsTo m r n
+  quick_taken {r} {n} k = subst (λ (y : Memory). StepsTo m r y) (sym k.rest) (k.steps m.code.digests m.memory.output h.sound)
+
   module _ {r : QuickStep} {n : Memory} (y : StepsTo m r n) where
     quick-sound : Sound (machine (onward_to m.state r) m.code n)
     quick-sound = step-sound decide_of facts m _ h.sound y.outcome

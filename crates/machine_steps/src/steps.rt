@@ -108,6 +108,9 @@ fn step_at(
 
 // Up to `budget` steps of a sound machine. Each tries halted, then spent, then full, then a step. The row of the machine is at hand before its step
 // and goes into the table behind it, since a refused step leaves the table as it is; its price is added behind it.
+//
+// A `while`: it ends by two tests, and a `for` over the budget would say at two places how. `recording` and `tabling` stand beside their slices as machine_step's
+// `advance` says.
 pub fn steps(
     recording: bool,
     tabling: bool,

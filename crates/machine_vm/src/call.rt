@@ -72,7 +72,7 @@ fn checked(
     }
 }
 
-// With records and rows as the marks say; a slice that is not asked for has a length of 1, and is not looked at. Without a table there is no price, and no
+// With records and rows as the marks say, which stand beside their slices as machine_step's `advance` says; a slice that is not asked for has a length of 1, and is not looked at. Without a table there is no price, and no
 // array of prices is made.
 pub fn call(
     recording: bool,

@@ -12,8 +12,7 @@ use Rattle.machine.specs.Ram.{Cells, cells}
 use Rattle.machine.specs.Records.{Record}
 use Rattle.machine_log.specs.Kinds.{kind_number}
 use Rattle.replay_scan.specs.declared.record.Frame.{Frame}
-use Rattle.replay_scan.specs.declared.record.Head.TheVariants.{End, Broken, Record as RecordHead}
-use Rattle.replay_scan.specs.declared.record.Head.{Head}
+use Rattle.replay_scan.specs.declared.record.Head.TheVariants.{Record as RecordHead}
 use Rattle.replay.specs.LastWrite.{wrote_of, had_of}
 use Rattle.replay_scan.specs.RecordView.{record_at, Headed}
 use Rattle.replay_scan.specs.Walk.{Log, Walk, none, Walked}
@@ -23,7 +22,7 @@ use Rattle.replay_table.specs.Table.{seen, known, Paired, Table, Makes}
 use Rattle.replay_group.specs.GroupView.{Lent, Gathered, Gathers}
 use Rattle.replay_table.specs.TableView.{Touches}
 use Rattle.replay_scan.proofs.Walks.{walk-append}
-use Rattle.replay_scan.proofs.WalkLaws.{walk_end, Next, walk-next, walk-not_end, walk-not_broken}
+use Rattle.replay_scan.proofs.WalkLaws.{walk_end, Next, walk-next}
 use Rattle.replay_table.proofs.GroupLaws.{apart, right_snoc, right-less}
 use Rattle.replay_table.proofs.CellsLaws.{has-none}
 use Rattle.replay_table.proofs.TableLaws.{sorted_none, Roomy, table_made, turn_right, turn_wrong, turn_still, turn_table, settled-length, table-settled}
@@ -225,9 +224,3 @@ gathers-settled {lo = lo} {hi} {t = t} {m} {s} {v} {d} w g e k =
             all = x.all;
           };
     }
-
--- where a walk has yet to pass a record, a head tells of one
-pub head_some : {s : Log} {i to : ℕ} {rs : List Record} (h : Head) → Headed s i h → i < to → Walk s i to rs → ((f : Frame) → h ≡ RecordHead f → ⊥) → ⊥
-head_some End g l w n = walk-not_end g l w
-head_some Broken g l w n = walk-not_broken g l w
-head_some (RecordHead f) g l w n = n f refl

@@ -17,7 +17,8 @@ ghost use Rattle.replay_group.specs.GroupView.{LentTo, looks, opening_of, Gather
 
 use field::base::P;
 use machine_log::kinds::RecordKind;
-use replay_scan::record::{Head, Log};
+use replay_scan::record::Log;
+use replay_scan::records::Placed;
 use replay_table::cells::{Cells, lacked};
 use replay_table::table::Table;
 
@@ -86,7 +87,7 @@ fn is_wrong(
     }
 }
 
-// The records before the place `to`, for a group from `low` on. It goes on by each record's own length, as scan_log does, whose line says why no iterator.
+// The records before the place `to`, for a group from `low` on.
 fn pass_log(
     log: Log<'_>,
     to: usize,
@@ -100,19 +101,16 @@ fn pass_log(
 {
     table.clear();
     let mut high = P;
-    let mut at = 0;
-    while at < to {
-        let Head::Record(frame) = log.head_at(at) else {
+    for record in log.records(to) {
+        let Ok(Placed { at, frame, .. }) = record else {
             unreachable!()
         };
-        let next = at + frame.size + 2;
         high = table.make_room(high);
         if is_wrong(log, at, frame.kind, Span { low, high }, opening, table) {
             return Group { end: at, high };
         }
-        at = next;
     }
-    Group { end: at, high }
+    Group { end: to, high }
 }
 
 // The same, with the late cells merged into the table.
@@ -132,7 +130,8 @@ pub fn group_from(
     group
 }
 
-// All addresses, group by group. A wrong read ends what the later groups pass over.
+// All addresses, group by group: where the next one begins is known behind the one before. A `while`, since each lends the table, which an
+// iterator of groups would keep. A wrong read ends what the later groups pass over.
 pub fn sweep_all(log: Log<'_>, to: usize, opening: &Cells<'_>, table: &mut Table<'_>) -> Sweep
     requires { Walked (log_at log) to × Sorted (cells_of_mut opening.now) × LentTo table.old }
     ensures sweeps { Sweeps (log_at log.entry) to (cells_of_mut opening.now) table.new result }

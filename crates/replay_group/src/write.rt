@@ -23,7 +23,7 @@ fn bring(cells: &mut Cells<'_>, from: &Cells<'_>)
     merge(cells, from, total);
 }
 
-// The records before `to`, group by group; gives how many groups there were.
+// The records before `to`, group by group; gives how many groups there were. A `while`, as in sweep_all.
 fn write_groups(log: Log<'_>, to: usize, cells: &mut Cells<'_>, table: &mut Table<'_>) -> usize
     requires { Fitting (log_at log) to (cells_of_mut cells.old) × LentTo table.old }
     ensures written { Written (log_at log.entry) to (cells_of_mut cells.old) (cells_of_mut cells.new) }

@@ -1,12 +1,13 @@
 // Each read of a log altered in turn, and the log replayed up to its end, so that each record is looked at.
-ghost use Rattle.std.specs.Prelude.{◌+◌, ◌≤◌, length};
+ghost use Rattle.std.specs.Prelude.{◌≡◌, ◌+◌, ◌≤◌, length};
 ghost use Rattle.replay_scan.specs.Walk.{log_of};
 ghost use Rattle.replay_scan.specs.RecordView.{Whole};
 
 use crate::memory_job::STEPS;
 use crate::print;
 use machine_log::kinds::RecordKind;
-use replay_scan::record::{Frame, Head, Log};
+use replay_scan::record::{Frame, Log};
+use replay_scan::records::Placed;
 use std::io;
 
 // Another word than these bytes: below 2^32, and its first byte differs.
@@ -56,19 +57,19 @@ fn alter_record(rt: &impl Print, log: &mut [u8], at: usize, frame: Frame) -> io:
     }
 }
 
-// By each record's own length; an iterator over the records would keep the log lent, which is written to here.
-pub fn alter_reads(rt: &impl Print, log: &mut [u8]) -> io::Result<()> {
-    let mut at = 0;
-    while at < log.len() {
-        let lent = Log {
-            bytes: log,
-            revision: 1,
-        };
-        let Head::Record(frame) = lent.head_at(at) else {
+// The reads of a log, in another copy of it.
+pub fn alter_reads(rt: &impl Print, log: &[u8], altered: &mut [u8]) -> io::Result<()>
+    requires { length altered.old ≡ length log.now }
+{
+    let lent = Log {
+        bytes: log,
+        revision: 1,
+    };
+    for record in lent.records(log.len()) {
+        let Ok(Placed { at, frame, .. }) = record else {
             return Ok(());
         };
-        alter_record(rt, log, at, frame)?;
-        at += frame.size + 2;
+        alter_record(rt, altered, at, frame)?;
     }
     Ok(())
 }

@@ -20,11 +20,12 @@ fn replay_clocks(rt: &impl Print, log: &[u8]) -> io::Result<()> {
     Ok(())
 }
 
-// The log is the first `bytes` of what is lent.
-fn replay_all(rt: &impl Print, lent: &mut [u8], bytes: usize) -> io::Result<()> {
+// The log is the first `bytes` of what is lent. Its reads are altered in a copy, so that the log itself can be gone over.
+fn replay_all(rt: &impl Print, lent: [u8; 4096], bytes: usize) -> io::Result<()> {
     let most = bytes.min(lent.len());
+    let mut altered = lent;
     replay_clocks(rt, &lent[..most])?;
-    alter::alter_reads(rt, &mut lent[..most])
+    alter::alter_reads(rt, &lent[..most], &mut altered[..most])
 }
 
 fn main(rt: HostRuntime) -> io::Result<()> {
@@ -77,5 +78,5 @@ fn main(rt: HostRuntime) -> io::Result<()> {
     print::number(&rt, b"steps ", traced.count)?;
     print::number(&rt, b" bytes ", traced.bytes as u64)?;
     print::text(&rt, b"\n")?;
-    replay_all(&rt, &mut log, traced.bytes)
+    replay_all(&rt, log, traced.bytes)
 }

@@ -1,22 +1,24 @@
 -- The frame of a record at a place of the log.
 use mathlib.Core.Path.{◌≡◌, refl, sym, ap, ◌∙◌}
 use mathlib.Core.List.{List, [], ◌∷◌}
+use mathlib.Core.Logic.{◌⊎◌, inl, inr}
 use Prim.Native.Nat.{ℕ, ◌+◌, ◌-◌, ◌/◌, ◌%◌, ◌≤◌, ◌<◌}
 use native.Mathlib.Omega.{arith}
 use mathlib.Core.Bool.{Bool, true, false}
 use borrow.Author.Tests.{lt-ltb, le-ltb, eq-eqb, ne_eqb, ltb-true, ltb-false}
-use lib.Dec.{ltb}
+use lib.Dec.{ltb, eqb}
 use Rattle.choices.specs.Choice.{cond}
 use lib.ListN.{length, take, drop, length-drop, drop_of_length-le}
 use lib.Seq.{drop-drop}
 use Rattle.machine.specs.Bytes.{number_of}
-use Rattle.machine.specs.Records.{length_of, record_of, broken, found, framed, parse}
+use Rattle.machine.specs.Records.{length_of, record_of, Parsed, ended, broken, found, framed, parse}
 use Rattle.replay_scan.specs.Walk.{Log, parse_at}
 use Rattle.machine_log.specs.Kinds.{kind_number}
 use Rattle.machine_log.specs.declared.kinds.RecordKind.{RecordKind}
 use Rattle.machine_log.specs.declared.kinds.RecordKind.TheVariants.{Stack, Ram}
 use Rattle.replay_scan.specs.RecordView.{number_at, record_at, Framed, whole_head, headed, Headed}
 use Rattle.replay_scan.specs.declared.record.Frame.{Frame}
+use Rattle.replay_scan.specs.declared.record.Head.{Head}
 use Rattle.replay_scan.specs.declared.record.Head.TheVariants.{End, Broken, Record as RecordHead}
 
 -- ---- no record
@@ -41,6 +43,34 @@ parse_long v (x ∷ d) h = rw (le-ltb (length (x ∷ d)) 4 h)
 
 pub head_short : (s : Log) (at : ℕ) → (length s.bytes - at ≡ 0 → ⊥) → length s.bytes - at < 4 → Headed s at Broken
 head_short s at h k = broken-is s at (parse-short s.revision (drop at s.bytes) (λ e. h (sym (length-drop at s.bytes) ∙ e)) (rw (length-drop at s.bytes) k))
+
+-- 0 at the end alone
+told : Parsed → ℕ
+told ended = 0
+told broken = 1
+told (found r t) = 1
+
+told-cond : (t : Bool) (a b : Parsed) → told a ≡ 1 → told b ≡ 1 → told (cond t a b) ≡ 1
+told-cond true a b h k = h
+told-cond false a b h k = k
+
+told-framed : (v n k : ℕ) (b : List ℕ) → told (framed v n k b) ≡ 1
+unfolding framed told
+told-framed v n k b = told-cond (eqb (length_of v k) 0) broken _ refl (told-cond (eqb n (length_of v k)) (cond (ltb (length b) (n + 2)) broken (found (record_of k (take (n + 2) b)) (drop (n + 2) b))) broken (told-cond (ltb (length b) (n + 2)) broken (found (record_of k (take (n + 2) b)) (drop (n + 2) b)) refl refl) refl)
+
+told-parse : (v : ℕ) (d : List ℕ) → told (parse v d) ≡ 0 → length d ≡ 0
+unfolding parse told
+told-parse v [] e = refl
+told-parse v (x ∷ d) e = let k = told-cond (ltb (length (x ∷ d)) 4) broken (framed v (number_of (take 2 (x ∷ d))) (number_of (take 2 (drop 2 (x ∷ d)))) (x ∷ d)) refl (told-framed v _ _ (x ∷ d)) in absurd (omega (arith, k, e))
+
+-- before the end of the log what is no record is no whole one
+pub head_broken : (s : Log) (at : ℕ) (h : Head) → at < length s.bytes → Headed s at h → (h ≡ End) ⊎ (h ≡ Broken) → Headed s at Broken
+unfolding headed told
+head_broken s at h l e (inr k) = rw k at e
+head_broken s at h l e (inl k) =
+    let g = rw k at e in
+    let z : length s.bytes - at ≡ 0 = sym (length-drop at s.bytes) ∙ told-parse s.revision (drop at s.bytes) (ap told (sym g.is)) in
+    absurd (omega arith)
 
 -- ---- length and kind
 

@@ -4,11 +4,11 @@ use mathlib.Core.List.{List, [], ◌∷◌}
 use Prim.Native.Nat.{ℕ, ◌+◌, ◌-◌, ◌≤◌, ◌<◌}
 use native.Mathlib.Omega.{arith}
 use lib.ListN.{length, drop, length-drop}
-use Rattle.machine.specs.Records.{Record, length_of, ended, broken, found}
+use Rattle.machine.specs.Records.{Record, length_of, broken, found}
 use Rattle.machine_log.specs.Kinds.{kind_number}
 use Rattle.replay_scan.specs.RecordView.{record_at, headed, Headed}
 use Rattle.replay_scan.specs.declared.record.Frame.{Frame}
-use Rattle.replay_scan.specs.declared.record.Head.TheVariants.{End, Broken, Record as RecordHead}
+use Rattle.replay_scan.specs.declared.record.Head.TheVariants.{Broken, Record as RecordHead}
 use Rattle.replay_scan.specs.Walk.{Log, parse_at, Walk, none, more}
 use Rattle.replay_scan.proofs.Heads.{head_record}
 
@@ -28,9 +28,6 @@ found-record r q t u e = cc
 
 found-rest : (r q : Record) (t u : List ℕ) → found r t ≡ found q u → t ≡ u
 found-rest r q t u e = cc
-
-no_end : (r : Record) (t : List ℕ) → ended ≡ found r t → ⊥
-no_end r t e = let z : ◌≡◌ {A = ℕ} 0 1 = cc in omega arith
 
 no_break : (r : Record) (t : List ℕ) → broken ≡ found r t → ⊥
 no_break r t e = let z : ◌≡◌ {A = ℕ} 0 1 = cc in omega arith
@@ -76,11 +73,6 @@ walk-next {s} {i} {to} h g m l (more n {r = r} {rs = ts} e p k w) =
     }
 
 -- and one stands there
-pub walk-not_end : {s : Log} {i to : ℕ} {rs : List Record} → Headed s i End → i < to → Walk s i to rs → ⊥
-unfolding headed
-walk-not_end g l none = omega arith
-walk-not_end {s} {i} g l (more n {r = r} e p k w) = no_end r (drop (i + n) s.bytes) (g.is ∙ e)
-
 pub walk-not_broken : {s : Log} {i to : ℕ} {rs : List Record} → Headed s i Broken → i < to → Walk s i to rs → ⊥
 unfolding headed
 walk-not_broken g l none = omega arith

@@ -1,5 +1,6 @@
 -- What the contracts cite, and what demand 3 claims.
 pub mod RecordView
+pub mod RecordsView
 pub mod Walk
 pub mod Scan
 pub mod ScanView

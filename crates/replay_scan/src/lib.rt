@@ -4,4 +4,5 @@
 pub mod counts;
 pub mod fault;
 pub mod record;
+pub mod records;
 pub mod scan;

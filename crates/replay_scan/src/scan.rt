@@ -12,7 +12,8 @@ ghost use Rattle.replay_scan.specs.ScanView.{Places, StackFault, Movable, Moved,
 
 use crate::counts::Counts;
 use crate::fault::Fault;
-use crate::record::{Fields, Head, Log};
+use crate::record::{Fields, Log};
+use crate::records::Placed;
 use machine_log::kinds::RecordKind;
 
 // Where a scan ended, at which fault, if at one, with the depth there, and whether a record before is of RAM.
@@ -213,37 +214,25 @@ fn record_turn(
     }
 }
 
-// The log up to a record that its clock or a fault ends, or behind a RAM read too many; writes the stack's words. It goes on by each record's own
-// length. An iterator over records is no plainer: it would hand out the places too, where a scan and a group end, and carry facts of what is left.
+// The log up to a record that its clock or a fault ends, or behind a RAM read too many; writes the stack's words.
 pub fn scan_log(log: Log<'_>, words: &mut [u64], clock: u64) -> Scan
     ensures { Scanned (log_at log.entry) words.old clock words.new result }
 {
-    let mut at = 0;
     let mut counts = Counts::none(0);
     let mut depth = 16;
     let mut ram = false;
-    loop {
-        let frame = match log.head_at(at) {
-            Head::End => {
-                return Scan {
-                    fault: None,
-                    end: at,
-                    depth,
-                    ram,
-                };
-            }
-            Head::Broken => {
+    for record in log.records(log.bytes.len()) {
+        let Placed { at, next, frame } = match record {
+            Ok(placed) => placed,
+            Err(end) => {
                 return Scan {
                     fault: Some(Fault::Malformed),
-                    end: at,
+                    end,
                     depth,
                     ram,
                 };
             }
-            Head::Record(frame) => frame,
         };
-        // before the turn, so that it is at + 25 for kinds 4 and 5
-        let next = at + frame.size + 2;
         let turn = match record_turn(log, at, frame.kind, words, clock, counts, depth) {
             Ok(turn) => turn,
             Err(fault) => {
@@ -255,7 +244,6 @@ pub fn scan_log(log: Log<'_>, words: &mut [u64], clock: u64) -> Scan
                 };
             }
         };
-        at = next;
         depth = turn.depth;
         ram |= turn.ram;
         counts = match turn.counts {
@@ -263,11 +251,17 @@ pub fn scan_log(log: Log<'_>, words: &mut [u64], clock: u64) -> Scan
             None => {
                 return Scan {
                     fault: Some(Fault::TooMany),
-                    end: at,
+                    end: next,
                     depth,
                     ram,
                 };
             }
         };
+    }
+    Scan {
+        fault: None,
+        end: log.bytes.len(),
+        depth,
+        ram,
     }
 }

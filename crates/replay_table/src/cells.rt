@@ -8,7 +8,7 @@ ghost use Rattle.replay_table.specs.LentView.{Kept};
 use crate::merge::merge_slices;
 use machine_ram::ram_mut::RamMut;
 
-// RAM's, or a table's.
+// RAM's cells, or a table's.
 pub type Cells<'a> = RamMut<'a>;
 
 // 1 where an address has no cell.

@@ -48,7 +48,8 @@ fn top(addresses: &[u64], values: &[u64], i: usize, keys: &[u64], vals: &[u64], 
 }
 
 // Brings n cells into those of two slices, which are `total` then. Slices and not Cells, whose pointers are loaded anew for each cell: 1.9
-// ns and not 1.4. The places are counted by hand, since no iterator goes down one slice while it writes to places above.
+// ns and not 1.4. The places are counted by hand: a `for` over them from the top down, which breaks where no new cell is left, takes 1.04 to
+// 1.10 times as long, and 1.2 where 500 cells come into 500.
 pub fn merge_slices(
     addresses: &mut [u64],
     values: &mut [u64],

@@ -38,6 +38,8 @@ returns c =
     let d : c.in_ok-d.d ≡ st c.args.w.now.words 1 = c.in_ok-d.ensures.0 ∙ c.st-below.ensures in
     acts_as _ (c.puts_u32.ensures ∙ ap (recording _ 2) c.of.ensures.words)
     ∙ rw (
+      c.new-less.ensures,
+      c.new-whole.ensures,
       goes_on _ _ _ _ c.st-above.ensures c.in_ok-n.ensures,
       goes_on _ _ _ _ c.st-below.ensures c.in_ok-d.ensures,
       c.from-r.ensures,

@@ -21,4 +21,4 @@ pub returns : goal.returns
 unfolding log2_floor_of
 returns c =
     let a : c.in_ok-a.a ≡ st c.args.w.now.words 0 = c.in_ok-a.ensures.0 ∙ c.st.ensures in
-    c.put.ensures ∙ rw (c.highest.ensures, c.from.ensures, goes_on _ _ _ _ c.st.ensures c.in_ok-a.ensures, ← a, ne_eqb _ _ c.if-a-eq0.false)
+    c.put.ensures ∙ rw (c.new.ensures, c.highest.ensures, c.from.ensures, goes_on _ _ _ _ c.st.ensures c.in_ok-a.ensures, ← a, ne_eqb _ _ c.if-a-eq0.false)

@@ -26,5 +26,5 @@ returns g c =
       c.operation.result,
       (λ h l. rw (← a, ← b) c.operation.ensures),
       c.put.ensures
-          ∙ rw (c.from.ensures, c.from-2.ensures, a, b) (sym (goes_on _ _ _ _ c.st.ensures c.in_ok-a.ensures ∙ goes_on _ _ _ _ c.st-2.ensures c.in_ok-b.ensures)),
+          ∙ rw (c.new-call.ensures, c.from.ensures, c.from-2.ensures, a, b) (sym (goes_on _ _ _ _ c.st.ensures c.in_ok-a.ensures ∙ goes_on _ _ _ _ c.st-2.ensures c.in_ok-b.ensures)),
     )

@@ -12,4 +12,4 @@ pub returns : goal.returns
 unfolding pop_count_of
 returns c =
     let a : c.in_ok-a.a ≡ st c.args.w.now.words 0 = c.in_ok-a.ensures.0 ∙ c.st.ensures in
-    c.put.ensures ∙ rw (c.ones.ensures, c.from.ensures, a) (sym (goes_on _ _ _ _ c.st.ensures c.in_ok-a.ensures))
+    c.put.ensures ∙ rw (c.new.ensures, c.ones.ensures, c.from.ensures, a) (sym (goes_on _ _ _ _ c.st.ensures c.in_ok-a.ensures))

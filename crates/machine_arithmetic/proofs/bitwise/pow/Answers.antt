@@ -12,4 +12,4 @@ pub returns : goal.returns
 unfolding pow_of
 returns c =
     let e : c.in_ok-e.e ≡ st c.args.w.now.words 1 = c.in_ok-e.ensures.0 ∙ c.st.ensures in
-    c.put.ensures ∙ rw (c.mod_pow.ensures, c.from-exponent.ensures, e, c.st-b.ensures) (sym (goes_on _ _ _ _ c.st.ensures c.in_ok-e.ensures))
+    c.put.ensures ∙ rw (c.new.ensures, c.mod_pow.ensures, c.from-exponent.ensures, e, c.st-b.ensures) (sym (goes_on _ _ _ _ c.st.ensures c.in_ok-e.ensures))

@@ -11,4 +11,4 @@ returns c =
     let a = c.st-a.ensures in
     let h : c.high-hi.result ≡ st c.args.w.now.words 0 / 2 ^ 32 = c.high-hi.ensures.0 ∙ ap (λ (x : ℕ). x / 2 ^ 32) a in
     let l : c.low-lo.result ≡ st c.args.w.now.words 0 % 2 ^ 32 = c.low-lo.ensures.0 ∙ ap (λ (x : ℕ). x % 2 ^ 32) a in
-    acts_as _ (c.puts_u32.ensures ∙ ap (recording (u32 4 c.low-lo.result c.high-hi.result ∷ []) 1) c.of.ensures.words) ∙ rw (h, l)
+    acts_as _ (rw c.new-call.ensures at c.puts_u32.ensures ∙ ap (recording (u32 4 c.low-lo.result c.high-hi.result ∷ []) 1) c.of.ensures.words) ∙ rw (h, l)

@@ -8,10 +8,10 @@ use Rattle.machine_decide.proofs.DecideLaws.{not_hashing}
 use Rattle.machine_decide.proofs.decide.act_hashing.Goals as goal
 
 pub sponge_absorb_mem-requires : goal.sponge_absorb_mem-requires
-sponge_absorb_mem-requires c = words_get_d 15 c.requires.reliable.words
+sponge_absorb_mem-requires c = words_get_d 15 c.requires.words
 
 pub merkle_step_mem-requires : goal.merkle_step_mem-requires
-merkle_step_mem-requires c = words_get_d 8 c.requires.reliable.words
+merkle_step_mem-requires c = words_get_d 8 c.requires.words
 
 pub returns-in-18 : goal.returns-in-18
 unfolding effect_of decode table

@@ -15,9 +15,6 @@ left-public-requires c = c.requires.sound.publics
 pub left-secret-requires : goal.left-secret-requires
 left-secret-requires c = c.requires.sound.secrets
 
-pub left-digests-requires : goal.left-digests-requires
-left-digests-requires c = c.requires.sound.digests
-
 pub last_entry-jump-requires : goal.last_entry-jump-requires
 last_entry-jump-requires c = (c.requires.sound.origins.used, c.requires.sound.destinations.used)
 
@@ -42,14 +39,11 @@ pub returns-clause-shows : goal.returns-clause-shows
 unfolding jump_top
 returns-clause-shows c =
     record {
-      opcode = refl;
-      argument = refl;
       top = sym c.of-top.ensures;
       pointer = refl;
       opcodes = refl;
       public = sym c.left-public.ensures;
       secret = sym c.left-secret.ensures;
-      digests = sym c.left-digests.ensures;
       jump = sym c.last_entry-jump.ensures;
       cells = refl;
     }

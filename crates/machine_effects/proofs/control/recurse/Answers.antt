@@ -1,13 +1,13 @@
 use Rattle.machine.specs.Refusal.{refusal_of}
 use Rattle.machine.specs.Control.{recurse_of}
 use Rattle.machine_effects.specs.EffectView.{effect_of}
-use Rattle.machine_effects.proofs.Effects.{acts_as, exits, no-entry}
+use Rattle.machine_effects.proofs.Effects.{acts_as, exits, none_is}
 use Rattle.machine_effects.proofs.control.recurse.Goals as goal
 
 pub returns-in_err-entry : goal.returns-in_err-entry
 unfolding recurse_of refusal_of
 returns-in_err-entry c =
-    let n = no-entry c.args.top _ c.in_err-entry.ensures.value in
+    let n = none_is c.args.top _ _ c.in_err-entry.ensures.value in
     rw (exits _ c.from_residual.result c.from_residual.ensures.1, n.0, n.1)
 
 pub returns : goal.returns

@@ -33,5 +33,5 @@ returns c =
     let f : l.i * 1 ≡ a.n = omega arith in
     record {
       writes = done (λ (i : ℕ). first_accesses Write l.cells i) l.i a.n e (writes-none a.w.now.words (l.i + 1) l.address a.n l.i (omega arith)) l.invariant.2;
-      next = l.invariant.1 ∙ ap (λ (i : ℕ). add_p a.start i) f;
+      after = l.invariant.1 ∙ ap (λ (i : ℕ). add_p a.start i) f;
     }

@@ -8,9 +8,9 @@ pub loop-fee-init : goal.loop-fee-init
 unfolding wide1
 loop-fee-init c = refl
 
-pub returns-in_err-check_fee : goal.returns-in_err-check_fee
-returns-in_err-check_fee c =
-    handed_on _ _ _ _ _ c.from_residual.ensures.1 (wide_found _ _ _ _ c.loop-fee-test.true c.loop-fee.invariant c.in_err-check_fee.ensures (number_a_some _))
+pub returns-in_err-check_at_most : goal.returns-in_err-check_at_most
+returns-in_err-check_at_most c =
+    handed_on _ _ _ _ _ c.from_residual.ensures.1 (wide_found _ _ _ _ c.loop-fee-test.true c.loop-fee.invariant c.in_err-check_at_most.ensures (number_a_some _))
 
 pub loop-fee-preserved : goal.loop-fee-preserved
-loop-fee-preserved c = wide_more _ _ c.loop-fee.invariant c.in_ok-check_fee.ensures
+loop-fee-preserved c = wide_more _ _ c.loop-fee.invariant c.in_ok-check_at_most.ensures

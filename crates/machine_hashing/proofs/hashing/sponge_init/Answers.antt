@@ -7,4 +7,4 @@ use Rattle.machine_hashing.proofs.hashing.sponge_init.Goals as goal
 
 pub returns : goal.returns
 unfolding sponge_init_of
-returns c = hashed-acts _ (ap (λ e. with_sponge e (becomes (record { words = replicate 16 0; set = true })) (reset ∷ e.calls)) c.takes_off.ensures)
+returns c = hashed-acts _ (rw c.init.ensures (ap (λ e. with_sponge e (becomes (record { words = replicate 16 0; set = true })) (reset ∷ e.calls)) c.takes_off.ensures))

@@ -4,9 +4,9 @@ use Rattle.machine_arithmetic.proofs.Checked.{goes_on}
 use Rattle.machine_hashing.proofs.HashedLaws.{hashed-acts, turned_down}
 use Rattle.machine_hashing.proofs.many_in_one.merkle_step_mem.Goals as goal
 
-pub returns-in_err-_index : goal.returns-in_err-_index
+pub returns-in_err-as_u32 : goal.returns-in_err-as_u32
 unfolding merkle_step_mem_of
-returns-in_err-_index c = turned_down _ _ _ _ _ c.st.ensures c.in_err-_index.ensures c.from_residual.ensures.1
+returns-in_err-as_u32 c = turned_down _ _ _ _ _ c.st.ensures c.in_err-as_u32.ensures c.from_residual.ensures.1
 
 pub returns : goal.returns
 unfolding merkle_step_mem_of merkle_stepped_mem
@@ -18,5 +18,5 @@ returns c =
       c.read_row-row.ensures.reads,
       c.read_row-row.ensures.next 5 refl,
       c.st-2.ensures,
-      goes_on _ _ _ _ c.st.ensures c.in_ok-_index.ensures,
+      goes_on _ _ _ _ c.st.ensures c.in_ok-as_u32.ensures,
     )

@@ -2,5 +2,5 @@ use Rattle.std.proofs.Common.{◌*◌}
 use Rattle.machine_log.specs.Logged.{WroteAny, ram_records}
 use Rattle.machine_log.proofs.calls.log_accesses.Given as goal
 
-abbrev pub invariant-loop-i : goal.invariant-loop-i
-invariant-loop-i l = WroteAny l.initial.b l.b l.at (ram_records l.clock l.accesses.direction l.accesses.cells l.i) (25 * l.i) l.next
+abbrev pub invariant-loop-access : goal.invariant-loop-access
+invariant-loop-access l = WroteAny l.initial.b l.b l.at (ram_records l.clock l.accesses.direction l.all l.access-index) (25 * l.access-index) l.next

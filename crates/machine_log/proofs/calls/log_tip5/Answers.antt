@@ -6,4 +6,4 @@ pub returns : goal.returns
 returns c =
     let a = c.args in
     let e = c.tip5_record-n.ensures in
-    record_back _ a.b.now _ _ a.at _ _ (search rules) (tip5-length _ _ _ _ c.requires.1) e.1 e.0
+    record_back _ a.b.now _ _ a.at _ _ (search rules) (tip5-length _ _ _ _ (search rules)) e.1 e.0

@@ -1,17 +1,17 @@
-use Rattle.std.proofs.Common.{refl, arith, sym, ◌-◌, ◌≡◌}
+use Rattle.std.proofs.Common.{refl, arith}
 use Rattle.machine.specs.Words.{zeros_from}
-use Rattle.machine_place_a.proofs.ChecksLaws.{zeros_more, zeros_stop, zeros_end}
+use Rattle.machine_place_a.proofs.ChecksLaws.{zeros_all, zeros_end}
 use Rattle.machine_place_a.proofs.checks.check_unused.Goals as goal
 
-pub loop-i-init : goal.loop-i-init
+pub loop-word-init : goal.loop-word-init
 unfolding zeros_from
-loop-i-init c = let e : c.args.used - c.args.used ≡ 0 = omega arith in rw e refl
+loop-word-init c = refl
 
-pub returns-then-words-i-ne0 : goal.returns-then-words-i-ne0
-returns-then-words-i-ne0 c = sym (zeros_stop _ _ _ c.loop-i.auto.i c.loop-i-test.true c.loop-i.invariant (omega (arith, c.if-words-i-ne0.true)))
+pub loop-word-preserved : goal.loop-word-preserved
+loop-word-preserved c = zeros_all c.loop-word.good _ _ c.loop-word.invariant
 
-pub loop-i-preserved : goal.loop-i-preserved
-loop-i-preserved c = zeros_more _ _ _ c.loop-i.auto.i c.loop-i.invariant (omega (arith, c.if-words-i-ne0.false))
+pub returns-then-good : goal.returns-then-good
+returns-then-good c = zeros_end c.args.words.now c.args.used c.min.result c.loop-word.word-index c.min.ensures (omega arith) c.if-good.true c.loop-word.invariant
 
-pub returns : goal.returns
-returns c = zeros_end _ _ _ c.loop-i.auto.i-end c.loop-i-test.false c.loop-i.invariant
+pub returns-else-good : goal.returns-else-good
+returns-else-good c = zeros_end c.args.words.now c.args.used c.min.result c.loop-word.word-index c.min.ensures (omega arith) c.if-good.false c.loop-word.invariant

@@ -1,7 +1,8 @@
-use Rattle.std.proofs.Common.{◌≡◌, ◌-◌}
+use Rattle.std.proofs.Common.{◌≡◌}
+use Rattle.choices.specs.Choice.{cond}
 use Rattle.machine.specs.Words.{zeros_from}
 use Rattle.machine_place_a.proofs.checks.check_unused.Given as goal
 
--- all so far are 0
-abbrev pub invariant-loop-i : goal.invariant-loop-i
-invariant-loop-i l = zeros_from l.words l.used (l.i - l.used) ≡ 0
+-- whether all words so far are 0
+abbrev pub invariant-loop-word : goal.invariant-loop-word
+invariant-loop-word l = cond l.good 0 5 ≡ zeros_from l.unused 0 l.word-index

@@ -17,11 +17,11 @@ pub act-requires : goal.act-requires
 act-requires c = c.hand_over.ensures.reliable
 
 pub change-requires : goal.change-requires
-change-requires c = quick_changing c.requires c.in_default.ensures (rw c.look.ensures at c.hand_over.ensures.shows) c.act.ensures c.in-Ok.is
+change-requires c = quick_changing c.requires c.in_default.ensures (rw c.look.ensures at c.hand_over.ensures.slot) (rw c.look.ensures at c.hand_over.ensures.shows) c.act.ensures c.in-Ok.is
 
 pub returns-in-Ok-clause-quicked : goal.returns-in-Ok-clause-quicked
 returns-in-Ok-clause-quicked c =
-    quick_done c.requires c.in_default.ensures (rw c.look.ensures at c.hand_over.ensures.shows) c.act.ensures c.in-Ok.is c.change.result _ c.change.ensures
+    quick_done c.requires c.in_default.ensures (rw c.look.ensures at c.hand_over.ensures.slot) (rw c.look.ensures at c.hand_over.ensures.shows) c.act.ensures c.in-Ok.is c.change.result _ c.change.ensures
 
 pub offset_bounds-code-state : goal.offset_bounds-code-state
 offset_bounds-code-state c = omega (arith, (quick_stands c.requires c.in_default.ensures).inside, c.requires.sound.code.slots_few)

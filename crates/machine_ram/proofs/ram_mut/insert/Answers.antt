@@ -1,8 +1,10 @@
-use Rattle.std.proofs.Common.{ap, ◌∙◌, set, List, ℕ}
-use Rattle.machine_ram.proofs.RamView.{inserted_pasted}
+use Rattle.std.proofs.Common.{ℕ, List, set, ap}
+use Rattle.machine.specs.Ram.{inserted}
+use Rattle.machine.proofs.Moves.{moved-lent}
 use Rattle.machine_ram.proofs.ram_mut.insert.Goals as goal
 
 pub returns : goal.returns
+unfolding inserted
 returns c =
     let a = c.args in
-    ap (λ (l : List ℕ). set l a.i a.word) c.copy_within.ensures.after ∙ inserted_pasted a.s.now a.count a.i a.word c.requires.0 c.requires.1
+    ap (λ (l : List ℕ). set l a.i a.word) (moved-lent _ _ a.i _ c.move_up.ensures)

@@ -1,17 +1,20 @@
 use Rattle.std.proofs.Common.{◌∙◌, sym, ap, arith}
 use Rattle.machine.specs.Machine.{Memory}
-use Rattle.machine_steps.proofs.StepsLaws.{quick_room, quick_clock, quick_stepped, advanced_fits, advanced_stepped, advanced-refused}
+use Rattle.machine_steps.proofs.StepsLaws.{quick_taken, quick_room, quick_clock, quick_stepped, advanced_fits, advanced_stepped, advanced-refused}
 use Rattle.machine_steps.proofs.steps.step_at.Goals as goal
 
+pub quick-requires : goal.quick-requires
+quick-requires c = record { digests = _; output = _; sound = c.requires.sound; on = c.requires.on }
+
 pub moved-next-requires : goal.moved-next-requires
-moved-next-requires c = rw (ap (λ (m : Memory). m.op_stack) c.look.ensures) (quick_room c.requires c.in-Some.ensures.quicked)
+moved-next-requires c = rw (ap (λ (m : Memory). m.op_stack) c.look.ensures) (quick_room c.requires (quick_taken c.requires c.in-Some.ensures.quicked))
 
 pub overflow_add-now : goal.overflow_add-now
-overflow_add-now c = omega (arith, quick_clock c.requires c.in-Some.ensures.quicked)
+overflow_add-now c = omega (arith, quick_clock c.requires (quick_taken c.requires c.in-Some.ensures.quicked))
 
 pub returns-in-Some-clause-stepped : goal.returns-in-Some-clause-stepped
 returns-in-Some-clause-stepped c =
-    quick_stepped c.requires c.in-Some.ensures.quicked (rw (ap (λ (m : Memory). m.op_stack) c.look.ensures) at c.moved-next.ensures)
+    quick_stepped c.requires (quick_taken c.requires c.in-Some.ensures.quicked) (rw (ap (λ (m : Memory). m.op_stack) c.look.ensures) at c.moved-next.ensures)
 
 pub returns-in_err-stepped-clause-stepped : goal.returns-in_err-stepped-clause-stepped
 returns-in_err-stepped-clause-stepped c =

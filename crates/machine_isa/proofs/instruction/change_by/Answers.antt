@@ -3,7 +3,7 @@ use mathlib.Core.List.{[], ◌∷◌}
 use Rattle.machine.specs.Instruction.{table, decode, grows, grows_by_argument, shrinks, shrinks_by_argument}
 use Rattle.machine_isa.specs.InstructionView.{change_in}
 use Rattle.machine_isa.proofs.TableLaws.{arm, rest, same_change, change-sound}
-use Rattle.machine_isa.proofs.instruction.depth_change.Goals as goal
+use Rattle.machine_isa.proofs.instruction.change_by.Goals as goal
 
 pub returns-in-0 : goal.returns-in-0
 unfolding decode table
