@@ -1,2 +1,4 @@
-// Choices between numbers, for all layers: definitions and laws, without code.
+// Choices between numbers, for all layers.
 #![tactic(auto)]
+
+pub mod numbers;

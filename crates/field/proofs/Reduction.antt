@@ -1,10 +1,20 @@
 -- Laws on plain numbers that the proofs cite. Assumes nothing.
 use mathlib.Core.Path.{◌≡◌, sym, ◌∙◌}
 use Prim.Native.Nat.{ℕ, ◌+◌, ◌*◌, ◌-◌, ◌/◌, ◌%◌, ◌^◌, ◌<◌, ◌≤◌}
-use native.Mathlib.Nat.{add-mul-mod_self_right}
+use native.Mathlib.Nat.{div-add-mod', add-mul-mod_self_right}
 use native.Mathlib.Omega.{arith}
 use Rattle.field.specs.Base.{p}
 use lib.Arith.{digits_mod}
+
+-- the upper and the lower 64 bits of a product
+abbrev pub upper : ℕ → ℕ → ℕ
+upper a b = a * b / 2 ^ 64
+
+abbrev pub lower : ℕ → ℕ → ℕ
+lower a b = a * b % 2 ^ 64
+
+pub whole : (a b : ℕ) → a * b ≡ upper a b * 2 ^ 64 + lower a b
+whole a b = sym (div-add-mod' (a * b) (2 ^ 64))
 
 -- r is x's remainder where the two differ by multiples of p
 pub cong_mod : (x i j : ℕ) {r : ℕ} → x + j * p ≡ i * p + r → r < p → r ≡ x % p

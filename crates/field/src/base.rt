@@ -1,5 +1,5 @@
 // Arithmetic on words. A word is a u64 below P; products take any u64.
-ghost use Rattle.std.specs.Prelude.{◌≡◌, ◌+◌, ◌*◌, ◌-◌, ◌/◌, ◌%◌, ◌^◌, ◌<◌};
+ghost use Rattle.std.specs.Prelude.{◌≡◌, ◌+◌, ◌*◌, ◌-◌, ◌/◌, ◌%◌, ◌^◌, ◌<◌, ltb};
 ghost use Rattle.field.specs.Base.{p, add_p, sub_p, neg_p, mul_p, pow_p, inverse_p};
 
 pub const P: u64 = 0xffff_ffff_0000_0001;
@@ -109,6 +109,20 @@ pub fn inverse(a: u64) -> u64
     ensures { (result ≡ inverse_p a) × (mul_p a result ≡ 1) }
 {
     inverse_or_zero(a)
+}
+
+// Whether a number is a word.
+pub fn is_word(x: u64) -> bool
+    ensures { result ≡ ltb x p }
+{
+    x < P
+}
+
+// Whether a number has 32 bits.
+pub fn is_u32(x: u64) -> bool
+    ensures { result ≡ ltb x (2 ^ 32) }
+{
+    x < 0x1_0000_0000
 }
 
 // A function for each half: one for both would take a flag that says which.
