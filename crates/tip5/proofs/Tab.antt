@@ -51,6 +51,14 @@ tab-at f (suc n) k h = ap (λ (l : List ℕ). get_or l k 0) (tab_suc f n) ∙ la
 pub tab-element : (f : ℕ → ℕ) (l : List ℕ) (n k : ℕ) → l ≡ tab f n → k < n → get_or l k 0 ≡ f k
 tab-element f l n k e h = ap (λ (m : List ℕ). get_or m k 0) e ∙ tab-at f n k h
 
+-- the first n, where a loop that fills them has come to n
+pub tab-first : (f : ℕ → ℕ) (l : List ℕ) (i n : ℕ) → i ≡ n → take i l ≡ tab f i → take n l ≡ tab f n
+tab-first f l i n g e = sym (ap (λ (k : ℕ). take k l) g) ∙ e ∙ ap (tab f) g
+
+-- an element of the first i, where these are made so
+pub tab-stored : (f : ℕ → ℕ) (l : List ℕ) (i k : ℕ) → take i l ≡ tab f i → k < i → get_or l k 0 ≡ f k
+tab-stored f l i k e h = sym (get_or-take i l k 0 h) ∙ tab-element f (take i l) i k e h
+
 -- one computed equation, carried to each element
 pub tab-same : (f g : ℕ → ℕ) (n k : ℕ) → tab f n ≡ tab g n → k < n → f k ≡ g k
 tab-same f g n k e h = sym (tab-at f n k h) ∙ ap (λ (l : List ℕ). get_or l k 0) e ∙ tab-at g n k h
