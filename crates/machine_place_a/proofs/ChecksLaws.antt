@@ -1,16 +1,16 @@
 -- What the turns of place A's loops show. Assumes nothing.
-use mathlib.Core.Path.{◌≡◌, refl, sym, ◌∙◌}
+use mathlib.Core.Path.{◌≡◌, refl, sym, ap, ◌∙◌}
 use mathlib.Core.Bool.{Bool, true, false, ◌&&◌}
-use mathlib.Core.List.{List}
+use mathlib.Core.List.{List, ◌++◌}
 use Prim.Native.Nat.{ℕ, zero, suc, ◌+◌, ◌-◌, ◌≤◌, ◌<◌, min}
 use native.Mathlib.Numerals.{add-one}
 use native.Mathlib.Omega.{arith}
 use borrow.Author.Tests.{ne_eqb, lt-ltb, eqb-true, eqb-false, ltb-true, ltb-false}
-use lib.ListN.{length, get_or, take, drop, length-drop}
+use lib.ListN.{length, get_or, take, drop, length-drop, length-append}
 use lib.Seq.{get_or-take, length-take-le, take_all}
 use lib.Dec.{eqb, ltb}
 use Rattle.std.specs.Prelude.{Result, Ok, Err}
-use Rattle.std.proofs.lemmas.List.{get_or-drop}
+use Rattle.std.proofs.lemmas.List.{get_or-drop, get_or_append_left, get_or-append-add}
 use Rattle.std.specs.Result.{result_and}
 use Rattle.machine.specs.declared.refusal.PlaceA.{PlaceA}
 use Rattle.machine.specs.Refusal.{number_a, found_a}
@@ -47,6 +47,44 @@ module _ (f t : ℕ → ℕ) (turn : (n : ℕ) → f (suc n) ≡ first_of (f n) 
       let w : f (suc i) ≡ k = turn i ∙ first_zero _ _ h ∙ e in
       scan_kept (suc i) n l (λ z. omega (arith, w)) ∙ w
 
+-- ---- pieces
+
+first_nothing : (a : ℕ) → first_of a 0 ≡ a
+unfolding first_of
+first_nothing zero = refl
+first_nothing (suc a) = first-left (suc a) 0 (λ z. omega arith)
+
+first_assoc : (a b d : ℕ) → first_of (first_of a b) d ≡ first_of a (first_of b d)
+unfolding first_of
+first_assoc zero b d = refl
+first_assoc (suc a) b d = rw (ne_eqb (suc a) 0 (λ z. omega arith), ne_eqb (suc a) 0 (λ z. omega arith)) refl
+
+-- a test t of each element, and the first number that it gives over the first so many of a list
+module _ (f : List ℕ → ℕ → ℕ) (t : ℕ → ℕ) (none : (s : List ℕ) → f s 0 ≡ 0) (turn : (s : List ℕ) (n : ℕ) → f s (suc n) ≡ first_of (f s n) (t (get_or s n 0))) where
+  -- what stands behind plays no part
+  within : (s r : List ℕ) (n : ℕ) → n ≤ length s → f (s ++ r) n ≡ f s n
+  within s r zero l = none (s ++ r) ∙ sym (none s)
+  within s r (suc n) l = rw (turn (s ++ r) n, turn s n, within s r n (omega arith), get_or_append_left s r 0 n (omega arith)) refl
+
+  parts : (s r : List ℕ) (n : ℕ) → f (s ++ r) (length s + n) ≡ first_of (f s (length s)) (f r n)
+  parts s r zero = let z : length s + 0 ≡ length s = omega arith in rw (z, none r, first_nothing (f s (length s))) (within s r (length s) (omega arith))
+  parts s r (suc n) =
+      let z : length s + suc n ≡ suc (length s + n) = omega arith in
+      rw (z, turn (s ++ r) (length s + n), parts s r n, get_or-append-add s r n 0, turn r n) (first_assoc (f s (length s)) (f r n) (t (get_or r n 0)))
+
+  -- the rest q of a list is a piece and what is left
+  whole : (q s r : List ℕ) → q ≡ s ++ r → f q (length q) ≡ first_of (f s (length s)) (f r (length r))
+  whole q s r e = let l : length q ≡ length s + length r = ap length e ∙ length-append s r in rw (l, e) (parts s r (length r))
+
+  pub piece_left : (q s r : List ℕ) {k : ℕ} → q ≡ s ++ r → 0 ≡ f s (length s) → f q (length q) ≡ k → f r (length r) ≡ k
+  piece_left q s r e z h = sym (first_zero _ _ (sym z)) ∙ sym (whole q s r e) ∙ h
+
+  pub piece_found : (q s r : List ℕ) (i : ℕ) {k : ℕ} → q ≡ s ++ r → i ≡ f s (length s) → 0 < i → f q (length q) ≡ k → i ≡ k
+  piece_found q s r i e h l d = h ∙ sym (first-left (f s (length s)) (f r (length r)) (λ z. omega arith)) ∙ sym (whole q s r e) ∙ d
+
+  pub piece_done : (q : List ℕ) {k : ℕ} → length q ≡ 0 → f q (length q) ≡ k → 0 ≡ k
+  piece_done q e h = rw (e, none q) at h
+
 -- ---- words
 
 -- whether so many are words, and one more
@@ -67,7 +105,41 @@ words_used s n r e =
     let k : r ≡ min n (length s) = omega arith in
     rw (l, words_take s r r (omega arith), k) refl
 
+words_turn : (s : List ℕ) (n : ℕ) → words_of s (suc n) ≡ first_of (words_of s n) (word_of2 (get_or s n 0))
+unfolding words_of
+words_turn s n = refl
+
+words_none : (s : List ℕ) → words_of s 0 ≡ 0
+unfolding words_of
+words_none s = refl
+
+pub words_left : (q s r : List ℕ) {k : ℕ} → q ≡ s ++ r → 0 ≡ words_of s (length s) → words_of q (length q) ≡ k → words_of r (length r) ≡ k
+words_left q s r e z h = piece_left words_of word_of2 words_none words_turn q s r e z h
+
+pub words_found : (q s r : List ℕ) (i : ℕ) {k : ℕ} → q ≡ s ++ r → i ≡ words_of s (length s) → 0 < i → words_of q (length q) ≡ k → i ≡ k
+words_found q s r i e h l d = piece_found words_of word_of2 words_none words_turn q s r i e h l d
+
+pub words_done : (q : List ℕ) {k : ℕ} → length q ≡ 0 → words_of q (length q) ≡ k → 0 ≡ k
+words_done q e h = piece_done words_of word_of2 words_none words_turn q e h
+
 -- ---- unused words
+
+zeros_turn : (s : List ℕ) (n : ℕ) → zeros_from s 0 (suc n) ≡ first_of (zeros_from s 0 n) (above_of (get_or s n 0) 0 5)
+unfolding zeros_from
+zeros_turn s n = let z : 0 + n ≡ n = omega arith in rw z refl
+
+zeros_nothing : (s : List ℕ) → zeros_from s 0 0 ≡ 0
+unfolding zeros_from
+zeros_nothing s = refl
+
+pub zeros_left : (q s r : List ℕ) {k : ℕ} → q ≡ s ++ r → 0 ≡ zeros_from s 0 (length s) → zeros_from q 0 (length q) ≡ k → zeros_from r 0 (length r) ≡ k
+zeros_left q s r e z h = piece_left (λ x. zeros_from x 0) (λ x. above_of x 0 5) zeros_nothing zeros_turn q s r e z h
+
+pub zeros_found : (q s r : List ℕ) (i : ℕ) {k : ℕ} → q ≡ s ++ r → i ≡ zeros_from s 0 (length s) → 0 < i → zeros_from q 0 (length q) ≡ k → i ≡ k
+zeros_found q s r i e h l d = piece_found (λ x. zeros_from x 0) (λ x. above_of x 0 5) zeros_nothing zeros_turn q s r i e h l d
+
+pub zeros_done : (q : List ℕ) {k : ℕ} → length q ≡ 0 → zeros_from q 0 (length q) ≡ k → 0 ≡ k
+zeros_done q e h = piece_done (λ x. zeros_from x 0) (λ x. above_of x 0 5) zeros_nothing zeros_turn q e h
 
 -- whether so many are 0, and one more
 pub zeros_all : (b : Bool) (s : List ℕ) (i : ℕ) → cond b 0 5 ≡ zeros_from s 0 i → cond (b && eqb (get_or s i 0) 0) 0 5 ≡ zeros_from s 0 (i + 1)
@@ -103,6 +175,10 @@ zeros_unused s n m e =
 -- behind the last, where b is the answer
 pub zeros_end : (s : List ℕ) (n m i : ℕ) {b t : Bool} → m ≡ min (length s) n → i ≡ length (take (length s - m) (drop m s)) → b ≡ t → cond b 0 5 ≡ zeros_from (take (length s - m) (drop m s)) 0 i → cond t 0 5 ≡ zeros_from s n (length s - n)
 zeros_end s n m i e f g h = rw (g, f) at h ∙ zeros_unused s n m e
+
+-- before the first piece q is all that is not used
+pub zeros_start : (q s : List ℕ) (n m : ℕ) → q ≡ take (length s - m) (drop m s) → m ≡ min (length s) n → zeros_from q 0 (length q) ≡ zeros_from s n (length s - n)
+zeros_start q s n m d e = rw d (zeros_unused s n m e)
 
 -- ---- slots
 

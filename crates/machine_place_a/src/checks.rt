@@ -4,7 +4,7 @@
 ghost use Rattle.std.specs.Prelude.{◌≡◌, [] as Nil, ◌-◌, ◌/◌, ◌≤◌, length, OnOk};
 ghost use Rattle.choices.specs.Choice.{first_of, above_of, differ_of};
 ghost use Rattle.machine.specs.Refusal.{number_a, found_a};
-ghost use Rattle.machine.specs.Words.{word_of2, words_of};
+ghost use Rattle.machine.specs.Words.{word_of2, words_of, zeros_from};
 ghost use Rattle.machine.specs.Ram.{cells as cells_of, cells1, cells2, cells5, falls_of};
 ghost use Rattle.machine.specs.Machine.{machine, code};
 ghost use Rattle.machine.specs.Lent.{code_of, seen};
@@ -19,6 +19,9 @@ use machine_ram::ram;
 
 // How many words, or bytes, a slice may have.
 const LONGEST: usize = 16777216;
+
+// How many words are read between two tests of what was read.
+const PIECE: usize = 256;
 
 // ---- 1: lengths
 
@@ -106,16 +109,26 @@ fn check_word(word: u64) -> Result<(), PlaceA>
     }
 }
 
-// Each word is looked at, whatever the one before was: the compiler takes two at a time then, and a call with much memory is
+// Each word of a piece is looked at, whatever the one before was: the compiler takes two at a time then, and a call with much memory is
 // mostly this loop.
-fn check_words(words: &[u64]) -> Result<(), PlaceA>
-    ensures { found_a result ≡ words_of words.now (length words.now) }
+fn check_piece(piece: &[u64]) -> Result<(), PlaceA>
+    ensures { found_a result ≡ words_of piece.now (length piece.now) }
 {
     let mut good = true;
-    for word in words {
+    for word in piece {
         good &= *word < P;
     }
     if good { Ok(()) } else { Err(PlaceA::NotAWord) }
+}
+
+// By pieces, so that behind the first that is no word only the rest of its piece is read.
+fn check_words(words: &[u64]) -> Result<(), PlaceA>
+    ensures { found_a result ≡ words_of words.now (length words.now) }
+{
+    for piece in words.chunks(PIECE) {
+        check_piece(piece)?;
+    }
+    Ok(())
 }
 
 // As much of a slice as is used.
@@ -190,16 +203,26 @@ pub fn check_revision(revision: u64) -> Result<(), PlaceA>
 
 // ---- 5: depth, counts and positions, and what is not used
 
-// What stands at place `used` and behind it is 0. Each word is looked at, as in check_words.
+// Each word of a piece is looked at, as in check_piece.
+fn check_zeros(piece: &[u64]) -> Result<(), PlaceA>
+    ensures { found_a result ≡ zeros_from piece.now 0 (length piece.now) }
+{
+    let mut good = true;
+    for word in piece {
+        good &= *word == 0;
+    }
+    if good { Ok(()) } else { Err(PlaceA::BadState) }
+}
+
+// What stands at place `used` and behind it is 0. By pieces, as in check_words.
 pub fn check_unused(words: &[u64], used: usize) -> Result<(), PlaceA>
     ensures { found_a result ≡ unused5 words.now used }
 {
     let unused = &words[words.len().min(used)..];
-    let mut good = true;
-    for word in unused {
-        good &= *word == 0;
+    for piece in unused.chunks(PIECE) {
+        check_zeros(piece)?;
     }
-    if good { Ok(()) } else { Err(PlaceA::BadState) }
+    Ok(())
 }
 
 fn check_ascending(addresses: &[u64], count: usize) -> Result<(), PlaceA>

@@ -1,8 +1,9 @@
-use Rattle.std.proofs.Common.{◌≡◌}
-use Rattle.choices.specs.Choice.{cond}
+use Rattle.std.proofs.Common.{◌≡◌, length}
+use Rattle.std.specs.Slice.Iter.{chunks_rest, chunks_size}
 use Rattle.machine.specs.Words.{zeros_from}
+use Rattle.machine.specs.PlaceA.{unused5}
 use Rattle.machine_place_a.proofs.checks.check_unused.Given as goal
 
--- whether all words so far are 0
-abbrev pub invariant-loop-word : goal.invariant-loop-word
-invariant-loop-word l = cond l.good 0 5 ≡ zeros_from l.unused 0 l.word-index
+-- what is wrong is wrong with what is left
+abbrev pub invariant-loop-piece : goal.invariant-loop-piece
+invariant-loop-piece l = (chunks_size l.piece-iterator ≡ 256) × (zeros_from (chunks_rest l.piece-iterator) 0 (length (chunks_rest l.piece-iterator)) ≡ unused5 l.words l.used)

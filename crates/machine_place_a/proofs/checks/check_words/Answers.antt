@@ -1,11 +1,16 @@
-use Rattle.std.proofs.Common.{refl}
-use Rattle.machine.specs.Words.{words_of}
-use Rattle.machine_place_a.proofs.ChecksLaws.{words_all}
+use Rattle.std.proofs.Common.{◌∙◌}
+use Rattle.machine.proofs.Refused.{handed_on, number_a_some}
+use Rattle.machine_place_a.proofs.ChecksLaws.{words_left, words_found, words_done}
 use Rattle.machine_place_a.proofs.checks.check_words.Goals as goal
 
-pub loop-word-preserved : goal.loop-word-preserved
-loop-word-preserved c = words_all c.loop-word.good _ _ c.loop-word.invariant
+pub loop-piece-preserved : goal.loop-piece-preserved
+loop-piece-preserved c =
+    let steps = c.in-Some.ensures.steps in
+    (steps.0 ∙ c.loop-piece.invariant.0, words_left _ _ _ steps.1.0 c.in_ok-check_piece.ensures c.loop-piece.invariant.1)
 
-pub loop-word-init : goal.loop-word-init
-unfolding words_of
-loop-word-init c = refl
+pub returns-in_err-check_piece : goal.returns-in_err-check_piece
+returns-in_err-check_piece c =
+    handed_on _ _ _ _ _ c.from_residual.ensures.1 (words_found _ _ _ _ c.in-Some.ensures.steps.1.0 c.in_err-check_piece.ensures (number_a_some _) c.loop-piece.invariant.1)
+
+pub returns : goal.returns
+returns c = words_done _ c.in-None.ensures.steps.1.0 c.loop-piece.invariant.1

@@ -1,8 +1,8 @@
-use Rattle.std.proofs.Common.{◌≡◌}
-use Rattle.choices.specs.Choice.{cond}
+use Rattle.std.proofs.Common.{◌≡◌, length}
+use Rattle.std.specs.Slice.Iter.{chunks_rest, chunks_size}
 use Rattle.machine.specs.Words.{words_of}
 use Rattle.machine_place_a.proofs.checks.check_words.Given as goal
 
--- whether no word so far is at or above p
-abbrev pub invariant-loop-word : goal.invariant-loop-word
-invariant-loop-word l = cond l.good 0 2 ≡ words_of l.words l.word-index
+-- what is wrong is wrong with what is left
+abbrev pub invariant-loop-piece : goal.invariant-loop-piece
+invariant-loop-piece l = (chunks_size l.piece-iterator ≡ 256) × (words_of (chunks_rest l.piece-iterator) (length (chunks_rest l.piece-iterator)) ≡ words_of l.words (length l.words))
