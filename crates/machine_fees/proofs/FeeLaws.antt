@@ -5,7 +5,7 @@ use mathlib.Core.List.{List, []}
 use Prim.Native.Nat.{ℕ, zero, suc, ◌+◌, ◌≤◌, ◌<◌}
 use native.Mathlib.Numerals.{add-one}
 use native.Mathlib.Omega.{arith}
-use borrow.Author.Tests.{ne_eqb, eqb-true, eqb-false}
+use borrow.Author.Tests.{ne_eqb, eqb-true, eqb-false, ltb-true, ltb-false}
 use lib.ListN.{length, get_or, set, replicate, length-set, length-replicate}
 use lib.Seq.{get_or-set_same, get_or-set_other}
 use lib.Dec.{eqb, ltb}
@@ -38,8 +38,15 @@ wide_turn s n = refl
 pub wide_more : (s : List ℕ) (i : ℕ) → wide1 s i ≡ 0 → 0 ≡ above_of (get_or s i 0) 4294967295 1 → wide1 s (i + 1) ≡ 0
 wide_more s i h l = scan_more (wide1 s) _ (wide_turn s) i h (sym l)
 
-pub wide_found : (s : List ℕ) (i n k : ℕ) → i < n → wide1 s i ≡ 0 → k ≡ above_of (get_or s i 0) 4294967295 1 → 0 < k → k ≡ wide1 s n
-wide_found s i n k m h e l = sym (scan_stop (wide1 s) _ (wide_turn s) i n k m l h (sym e))
+-- the first that is above a number, which may be any from the limit on
+pub wide_found : (s : List ℕ) (i n k : ℕ) {b : ℕ} → i < n → wide1 s i ≡ 0 → 4294967295 ≤ b → k ≡ above_of (get_or s i 0) b 1 → 0 < k → k ≡ wide1 s n
+wide_found s i n k {b} m h w e l = sym (scan_stop (wide1 s) _ (wide_turn s) i n k m l h (go (ltb b (get_or s i 0)) refl))
+  where
+    go : (t : Bool) → ltb b (get_or s i 0) ≡ t → above_of (get_or s i 0) 4294967295 1 ≡ k
+    go true q =
+        let g = ltb-true b (get_or s i 0) q in
+        above-is (get_or s i 0) 4294967295 1 (omega arith) ∙ sym (e ∙ above-is (get_or s i 0) b 1 g)
+    go false q = absurd (omega (arith, l, e, above-not (get_or s i 0) b 1 (ltb-false b (get_or s i 0) q)))
 
 turned_turn : (t : FeeTable) (n : ℕ) → turned64 t (suc n) ≡ first_of (turned64 t n) (above_of (get_or t.lowest n 0) (get_or t.highest n 0) 64)
 unfolding turned64
