@@ -13,7 +13,8 @@ pub struct Refusal {
     pub word2: u64,
 }
 
-fn carry(number: u64, word0: u64, word1: u64, word2: u64) -> Refusal
+// A refusal by any number, with the words that it carries.
+pub fn carry(number: u64, word0: u64, word1: u64, word2: u64) -> Refusal
     ensures { refusal_in result ≡ refusal number word0 word1 word2 }
 {
     Refusal {
@@ -24,7 +25,8 @@ fn carry(number: u64, word0: u64, word1: u64, word2: u64) -> Refusal
     }
 }
 
-fn plainly(number: u64) -> Refusal
+// By any number, with zeros.
+pub fn plainly(number: u64) -> Refusal
     ensures { refusal_in result ≡ refusal number 0 0 0 }
 {
     carry(number, 0, 0, 0)
