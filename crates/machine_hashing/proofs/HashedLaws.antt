@@ -12,11 +12,13 @@ use Rattle.machine.specs.Refusal.{refusal_of, vector_assertion_failed}
 use Rattle.machine.specs.Machine.{st}
 use Rattle.machine.specs.Effect.{Effect, Decision, acts, refuses, puts, u32_only}
 use Rattle.machine.specs.Hashing.{fixed_length, reversed, assert_from}
+use Rattle.machine_effects.specs.declared.effect.Effect.{Effect as CodeEffect}
 use Rattle.machine_effects.specs.declared.effect.Refused.{Refused}
-use Rattle.machine_effects.specs.declared.effect.Refused.TheVariants.{Kept}
+use Rattle.machine_effects.specs.declared.effect.Refused.TheVariants.{Kept, Dropped}
+use Rattle.machine_effects.specs.EffectView.{effect_of, decision_of}
 use Rattle.machine_arithmetic.specs.U32.{IsU32}
 use Rattle.machine_hashing.specs.declared.hashing.Hashed.{Hashed}
-use Rattle.machine_hashing.specs.HashedView.{whole_of, hashed_of}
+use Rattle.machine_hashing.specs.HashedView.{whole_of, hashed_of, trace_first, traced_first}
 
 -- ---- assert_vector: what is left of the five comparisons
 
@@ -46,6 +48,16 @@ hashed-acts h q = ap acts q
 pub hashed-refuses : (e : InstructionError) → hashed_of (Err (Kept e)) ≡ refuses (refusal_of e)
 unfolding hashed_of
 hashed-refuses e = refl
+
+-- a trace before the calls of a decision
+pub traced-acts : (o : ℕ) (t : List ℕ) (e : CodeEffect) (h : Hashed) → whole_of h ≡ trace_first o t (effect_of e) → hashed_of (Ok h) ≡ traced_first o t (decision_of (Ok e))
+unfolding hashed_of decision_of
+traced-acts o t e h q = ap acts q
+
+pub traced-refused : (o : ℕ) (t : List ℕ) (x : Refused) → hashed_of (Err x) ≡ traced_first o t (decision_of (Err x))
+unfolding hashed_of decision_of
+traced-refused o t (Kept e) = refl
+traced-refused o t (Dropped e) = refl
 
 -- at the exit of a `?` where a word is not a u32
 pub turned_down : (a b : ℕ) (e : InstructionError) (r : Result Hashed Refused) (d : Decision) → b ≡ a → IsU32 b (Err e) → IsErrAnd r (λ x. x ≡ Kept e) → hashed_of r ≡ u32_only a d

@@ -58,6 +58,12 @@ hashed_of (Err (Dropped r)) = drops (refusal_of r)
 abbrev pub trace_first : ℕ → List ℕ → Effect → Effect
 trace_first o t e = with_sponge e keeps (tip5 o t ∷ e.calls)
 
+-- the same of a decision
+abbrev pub traced_first : ℕ → List ℕ → Decision → Decision
+traced_first o t (acts e) = acts (trace_first o t e)
+traced_first o t (refuses r) = refuses r
+traced_first o t (drops r) = drops r
+
 -- under an opcode, a trace behind the other calls; its last state becomes the sponge
 abbrev pub trace_last : ℕ → List ℕ → Effect → Effect
 trace_last o t e = with_sponge e (sponged t) (e.calls ++ (tip5 o t ∷ []))

@@ -7,7 +7,7 @@ ghost use Rattle.machine.specs.Effect.{recording};
 ghost use Rattle.machine.specs.Hashing.{from_top, last_state, reversed, hash_of, sponge_init_of, sponge_absorb_of, sponge_absorb_mem_of, sponge_squeeze_of, assert_vector_of};
 ghost use Rattle.machine_ram.specs.LentCells.{cells_of};
 ghost use Rattle.machine_effects.specs.EffectView.{effect_of, accesses_of, decision_of};
-ghost use Rattle.machine_hashing.specs.HashedView.{whole_of, hashed_of, trace_first, trace_last};
+ghost use Rattle.machine_hashing.specs.HashedView.{whole_of, hashed_of, trace_first, traced_first, trace_last};
 
 use machine::refusal::InstructionError;
 use machine_effects::effect::{Decided, Effect, Refused};
@@ -50,6 +50,13 @@ pub fn first(effect: Effect, opcode: u64, trace: [u64; 96]) -> Hashed
         sponge: None,
         recorded: Recorded::First(opcode, trace),
     }
+}
+
+// The same of a decision: one that is turned down stays so.
+pub fn trace_first(decided: Decided, opcode: u64, trace: [u64; 96]) -> HashDecided
+    ensures { hashed_of result ≡ traced_first opcode trace (decision_of decided) }
+{
+    Ok(first(decided?, opcode, trace))
 }
 
 // The last of a trace's six states.
