@@ -5,7 +5,7 @@ use Prim.Native.Nat.{ℕ, suc, ◌+◌, ◌-◌, ◌*◌, ◌%◌, ◌≤◌, �
 use native.Mathlib.Nat.{mod-add-mod}
 use native.Mathlib.Numerals.{add-one}
 use native.Mathlib.Omega.{arith}
-use lib.ListN.{length, take, set, length-set}
+use lib.ListN.{length, take, drop, set, length-set}
 use lib.Seq.{take-suc-set}
 use Rattle.std.proofs.lemmas.List.{map-append}
 use Rattle.field.specs.Base.{p, add_p, sub_p}
@@ -16,7 +16,7 @@ use Rattle.machine.specs.Ram.{Cells, held}
 use Rattle.machine.specs.Effect.{Call, ram_read, ram_write}
 use Rattle.machine_effects.specs.declared.effect.Access.{Access}
 use Rattle.machine_effects.specs.declared.effect.Direction.{Direction}
-use Rattle.machine_effects.specs.declared.effect.Direction.TheVariants.{Read}
+use Rattle.machine_effects.specs.declared.effect.Direction.TheVariants.{Read, Write}
 use Rattle.machine_effects.specs.EffectView.{access_of, first_accesses}
 use Rattle.machine.specs.Memory.{words_by, reads_by, down, writes_up}
 
@@ -40,6 +40,15 @@ done f i n {rest} {all} e z h = rw (← e) (sym (append-nil (f i)) ∙ (rw z at 
 pub start : (d : Direction) (s : List Access) (rest : List Call) → first_accesses d s 0 ++ rest ≡ rest
 unfolding first_accesses
 start d s rest = refl
+
+-- accesses that are all reads, or all writes
+pub all-reads : (s : List Access) (n : ℕ) → first_accesses Read s n ++ first_accesses Write (drop n s) (n - n) ≡ first_accesses Read s n
+unfolding first_accesses
+all-reads s n = let z : n - n ≡ 0 = omega arith in rw z (append-nil (map (access_of Read) (take n s)))
+
+pub all-writes : (s : List Access) (n : ℕ) → first_accesses Read s 0 ++ first_accesses Write (drop 0 s) (n - 0) ≡ first_accesses Write s n
+unfolding first_accesses
+all-writes s n = let z : n - 0 ≡ n = omega arith in rw z refl
 
 -- ---- the address after so many
 

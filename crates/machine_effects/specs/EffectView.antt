@@ -1,5 +1,5 @@
 -- Which effect the code's stands for.
-use Rattle.std.specs.Prelude.{◌≡◌, ℕ, ◌<◌, ◌≤◌, List, [], ◌∷◌, ◌++◌, length, map, take, Result, Ok, Err, Option, Some, None}
+use Rattle.std.specs.Prelude.{◌≡◌, ℕ, ◌-◌, ◌<◌, ◌≤◌, List, [], ◌∷◌, ◌++◌, length, map, take, drop, Result, Ok, Err, Option, Some, None}
 use Rattle.machine_isa.specs.declared.few.Few.{Few}
 use Rattle.machine_isa.specs.FewWords.{words_of}
 use Rattle.machine_effects.specs.declared.effect.Effect.{Effect as CodeEffect}
@@ -46,8 +46,14 @@ access_of Write a = ram_write a.address a.value
 unfoldable pub first_accesses : Direction → List Access → ℕ → List Call
 first_accesses d s n = map (access_of d) (take n s)
 
+-- reads, then writes
 abbrev pub accesses_of : Accesses → List Call
-accesses_of a = first_accesses a.direction a.cells a.count
+accesses_of a = first_accesses Read a.cells a.reads ++ first_accesses Write (drop a.reads a.cells) (a.count - a.reads)
+
+-- how many of n accesses in one direction are reads
+abbrev pub reads_among : Direction → ℕ → ℕ
+reads_among Read n = n
+reads_among Write n = 0
 
 abbrev pub calls_of : CodeEffect → List Call
 calls_of e = u32s_of e.u32s ++ accesses_of e.accesses

@@ -70,13 +70,14 @@ pub struct Access {
     pub value: u64,
 }
 
-// At most ten accesses of RAM in one direction: the first `count` of an array, as a Few has words. A Few of any type would ask for a
-// value to fill the array with.
+// At most ten accesses of RAM: the first `count` of an array, as a Few has words, of which the first `reads` are reads and the others
+// writes. A Few of any type would ask for a value to fill the array with.
 #[derive(Clone, Copy)]
 pub struct Accesses {
-    pub direction: Direction,
     pub cells: [Access; 10],
+    pub reads: usize,
     pub count: usize,
+    pub ghost reads_first: { reads ≤ count },
     pub ghost fits: { count ≤ 10 },
     pub ghost long: { length cells ≡ 10 },
 }
@@ -131,8 +132,24 @@ impl Access {
     }
 }
 
+impl Direction {
+    ghost use Rattle.std.specs.Prelude.{◌≡◌};
+    ghost use Rattle.machine_effects.specs.EffectView.{reads_among};
+
+    // How many of n accesses in this direction are reads.
+    fn reads(self, n: usize) -> usize
+        ensures { result ≡ reads_among self n }
+    {
+        match self {
+            Direction::Read => n,
+            Direction::Write => 0,
+        }
+    }
+}
+
 impl Accesses {
-    ghost use Rattle.std.specs.Prelude.{◌≡◌, [] as Nil, length, map, take};
+    ghost use Rattle.std.specs.Prelude.{◌≡◌, ◌≤◌, ◌+◌, ◌-◌, [] as Nil, ◌++◌, length, map, take, drop};
+    ghost use Rattle.machine_effects.specs.declared.effect.Direction.TheVariants.{Read, Write};
     ghost use Rattle.machine_effects.specs.EffectView.{accesses_of, access_of};
 
     #[tactic(auto, unfolding(crate::specs::EffectView::first_accesses))]
@@ -140,8 +157,8 @@ impl Accesses {
         ensures { accesses_of result ≡ Nil }
     {
         Accesses {
-            direction: Direction::Read,
             cells: [Access::NONE; 10],
+            reads: 0,
             count: 0,
         }
     }
@@ -154,9 +171,28 @@ impl Accesses {
         let mut cells = [Access::NONE; 10];
         cells[..K].copy_from_slice(&accesses);
         Accesses {
-            direction,
             cells,
+            reads: direction.reads(K),
             count: K,
+        }
+    }
+
+    // Reads, then writes.
+    #[tactic(auto, unfolding(crate::specs::EffectView::first_accesses))]
+    pub fn reads_then_writes<const K: usize, const N: usize>(
+        reads: [Access; K],
+        writes: [Access; N],
+    ) -> Self
+        requires { K + N ≤ 10 }
+        ensures { accesses_of result ≡ map (access_of Read) reads.entry ++ map (access_of Write) writes.entry }
+    {
+        let mut cells = [Access::NONE; 10];
+        cells[..K].copy_from_slice(&reads);
+        cells[K..K + N].copy_from_slice(&writes);
+        Accesses {
+            cells,
+            reads: K,
+            count: K + N,
         }
     }
 
@@ -165,6 +201,22 @@ impl Accesses {
         ensures count { length result.now ≡ self.now.count }
     {
         &self.cells[..self.count]
+    }
+
+    // Those that are reads.
+    pub fn reads_as_slice(&self) -> &[Access]
+        ensures cells { result.now ≡ take self.now.reads self.now.cells }
+        ensures count { length result.now ≡ self.now.reads }
+    {
+        &self.cells[..self.reads]
+    }
+
+    // Those that are writes.
+    pub fn writes_as_slice(&self) -> &[Access]
+        ensures cells { result.now ≡ take (self.now.count - self.now.reads) (drop self.now.reads self.now.cells) }
+        ensures count { length result.now ≡ self.now.count - self.now.reads }
+    {
+        &self.cells[self.reads..self.count]
     }
 }
 

@@ -8,7 +8,7 @@ ghost use Rattle.machine_ram.specs.LentCells.{cells_of};
 ghost use Rattle.machine_effects.specs.EffectView.{decision_of};
 ghost use Rattle.machine_effects.specs.MemoryView.{ReadBy, Written};
 
-use crate::effect::{Access, Accesses, Decided, Direction, Effect};
+use crate::effect::{Access, Accesses, Decided, Effect};
 use field::base;
 use machine_isa::few::Few;
 use machine_isa::op_stack::Top;
@@ -45,8 +45,8 @@ pub fn read_row(ram: &Ram<'_>, start: u64, step: u64, n: usize) -> Row
         guess = place;
     }
     let accesses = Accesses {
-        direction: Direction::Read,
         cells,
+        reads: n,
         count: n,
     };
     Row {
@@ -83,8 +83,8 @@ fn write_row(w: &Top, start: u64, n: usize) -> (Accesses, u64)
         address = base::add(address, 1);
     }
     let accesses = Accesses {
-        direction: Direction::Write,
         cells,
+        reads: 0,
         count: n,
     };
     (accesses, address)

@@ -30,7 +30,7 @@ use Rattle.machine_effects.specs.EffectView.{u32_of, access_of, first_accesses, 
 use Rattle.machine.specs.Records.{Record, other, timed, stack, ram, length_of, record_bytes, log_bytes, words_bytes, clocked, call_record, call_records, growing, shrinking, stack_records, records_of}
 use Rattle.machine_log.specs.declared.calls.Besides.{Besides}
 use Rattle.machine_log.specs.declared.calls.Besides.TheVariants.{Nothing, Reset, First, Last}
-use Rattle.machine_log.specs.Logged.{logged, Wrote, WroteAny, FrontAny, head_bytes, tip5_bytes, u32_bytes, tip5_record, u32_record, direction_number, ram_records}
+use Rattle.machine_log.specs.Logged.{logged, Wrote, WroteAny, FrontAny, head_bytes, tip5_bytes, u32_bytes, tip5_record, u32_record, direction_number, ram_records, access_records}
 use Rattle.machine_log.specs.Beside.{with_besides, calls_before, calls_behind}
 use Rattle.machine.proofs.Bytes.{bytes-length}
 use Rattle.machine.proofs.OpStack.{applied_below}
@@ -331,9 +331,15 @@ rams_are v t d [] = refl
 rams_are v t Read (x ∷ s) = ap (λ (r : List Record). ram t x.address x.value 0 ∷ r) (rams_are v t Read s)
 rams_are v t Write (x ∷ s) = ap (λ (r : List Record). ram t x.address x.value 1 ∷ r) (rams_are v t Write s)
 
-pub accesses_are : (v t : ℕ) (a : Accesses) → ram_records t a.direction a.cells a.count ≡ call_records v t (accesses_of a)
+row_is : (v t : ℕ) (d : Direction) (s : List Access) (n : ℕ) → ram_records t d s n ≡ call_records v t (first_accesses d s n)
 unfolding ram_records first_accesses
-accesses_are v t a = rams_are v t a.direction (take a.count a.cells)
+row_is v t d s n = rams_are v t d (take n s)
+
+pub accesses_are : (v t : ℕ) (a : Accesses) → access_records t a ≡ call_records v t (accesses_of a)
+accesses_are v t a =
+    let x = row_is v t Read a.cells a.reads in
+    let y = row_is v t Write (drop a.reads a.cells) (a.count - a.reads) in
+    (λ i. x i ++ y i) ∙ sym (calls-append v t (first_accesses Read a.cells a.reads) (first_accesses Write (drop a.reads a.cells) (a.count - a.reads)))
 
 -- what is recorded besides, with an effect's calls
 pub besides_are : (v t : ℕ) (x : Besides) (cs : List Call) →

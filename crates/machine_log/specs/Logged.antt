@@ -2,6 +2,7 @@
 use Rattle.std.specs.Prelude.{◌≡◌, List, ◌++◌, ℕ, ◌+◌, ◌-◌, ◌*◌, ◌≤◌, length, map, take, drop, eqb}
 use Rattle.machine_effects.specs.declared.effect.Effect.{Effect}
 use Rattle.machine_effects.specs.declared.effect.Access.{Access}
+use Rattle.machine_effects.specs.declared.effect.Accesses.{Accesses}
 use Rattle.machine_effects.specs.declared.effect.Direction.{Direction}
 use Rattle.machine_effects.specs.declared.effect.Direction.TheVariants.{Read, Write}
 use Rattle.machine_effects.specs.declared.effect.U32Calls.{U32Calls}
@@ -63,6 +64,10 @@ direction_number Write = 1
 -- the first n accesses of RAM of a list, in one direction
 unfoldable pub ram_records : ℕ → Direction → List Access → ℕ → List Record
 ram_records t d s n = map (λ a. ram t a.address a.value (direction_number d)) (take n s)
+
+-- those of an effect: the reads, then the writes
+abbrev pub access_records : ℕ → Accesses → List Record
+access_records t a = ram_records t Read a.cells a.reads ++ ram_records t Write (drop a.reads a.cells) (a.count - a.reads)
 
 -- how many bytes an effect's calls take in a log of revision v, and a change of the depth
 abbrev pub call_bytes : ℕ → Effect → ℕ

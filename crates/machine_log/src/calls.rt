@@ -4,7 +4,7 @@ ghost use Rattle.choices.specs.Choice.{cond};
 ghost use Rattle.machine.specs.Bytes.{bytes_of};
 ghost use Rattle.machine.specs.Records.{other, stack as stacked, ram, record_bytes, words_bytes, stack_records, call_records};
 ghost use Rattle.machine_effects.specs.EffectView.{u32s_of, calls_of};
-ghost use Rattle.machine_log.specs.Logged.{logged, Wrote, WroteAny, FrontAny, tip5_bytes, u32_bytes, u32_count, direction_number, ram_records, call_bytes, stack_bytes, Deep, tip5_record, u32_record};
+ghost use Rattle.machine_log.specs.Logged.{logged, Wrote, WroteAny, FrontAny, tip5_bytes, u32_bytes, u32_count, direction_number, ram_records, access_records, call_bytes, stack_bytes, Deep, tip5_record, u32_record};
 ghost use Rattle.machine_log.specs.Beside.{with_besides, calls_before, calls_behind, bytes_before, bytes_behind, besides_bytes, LogRoom};
 
 use machine_effects::effect::{Access, Accesses, Direction, Effect, U32Call, U32Calls};
@@ -184,16 +184,25 @@ fn log_u32s(b: &mut [u8], at: usize, revision: u64, clock: u32, calls: U32Calls)
     }
 }
 
-fn log_accesses(b: &mut [u8], at: usize, clock: u32, accesses: &Accesses) -> usize
-    requires { at + 25 * accesses.now.count ≤ length b.old }
-    ensures { WroteAny b.old b.new at (ram_records clock accesses.now.direction accesses.now.cells accesses.now.count) (25 * accesses.now.count) result }
+// Accesses that are all in one direction.
+fn log_row(b: &mut [u8], at: usize, clock: u32, accesses: &[Access], direction: Direction) -> usize
+    requires { at + 25 * length accesses.now ≤ length b.old }
+    ensures { WroteAny b.old b.new at (ram_records clock direction accesses.now (length accesses.now)) (25 * length accesses.now) result }
 {
     let mut next = at;
-    let all = accesses.as_slice();
-    for access in all {
-        next = log_ram(b, next, clock, *access, accesses.direction);
+    for access in accesses {
+        next = log_ram(b, next, clock, *access, direction);
     }
     next
+}
+
+// The reads, then the writes.
+fn log_accesses(b: &mut [u8], at: usize, clock: u32, accesses: &Accesses) -> usize
+    requires { at + 25 * accesses.now.count ≤ length b.old }
+    ensures { WroteAny b.old b.new at (access_records clock accesses.now) (25 * accesses.now.count) result }
+{
+    let next = log_row(b, at, clock, accesses.reads_as_slice(), Direction::Read);
+    log_row(b, next, clock, accesses.writes_as_slice(), Direction::Write)
 }
 
 // A write where the depth grows, else a read.

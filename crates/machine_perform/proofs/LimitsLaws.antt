@@ -8,17 +8,18 @@ use Prim.Native.Nat.{ℕ, zero, suc, ◌+◌, ◌-◌, ◌≤◌, ◌<◌}
 use native.Mathlib.Numerals.{add-one}
 use native.Mathlib.Omega.{arith}
 use borrow.Author.Tests.{eq-eqb, ne_eqb, eqb-true, eqb-false, ltb-true, ltb-false}
-use lib.ListN.{length, take, get_or}
+use lib.ListN.{length, take, drop, get_or}
 use lib.Dec.{eqb, ltb}
 use Rattle.std.specs.List.{list_any}
 use Rattle.std.proofs.lemmas.List.{map-append, take_all}
 use Rattle.std.proofs.lemmas.List.Folds.{list_any-append}
-use lib.Seq.{take-suc, length-take-le}
+use lib.Seq.{take-suc}
 use Rattle.std.specs.Prelude.{Result, Ok, Err, is_ok}
 use Rattle.machine_ram.specs.RamView.{found_of}
 use Rattle.machine.specs.declared.state.VMState.{VMState}
 use Rattle.machine_effects.specs.declared.effect.Effect.{Effect as CodeEffect}
 use Rattle.machine_effects.specs.declared.effect.Access.{Access}
+use Rattle.machine_effects.specs.declared.effect.Accesses.{Accesses}
 use Rattle.machine_effects.specs.declared.effect.Direction.{Direction}
 use Rattle.machine_effects.specs.declared.effect.Direction.TheVariants.{Read, Write}
 use Rattle.machine_effects.specs.declared.effect.U32Calls.{U32Calls}
@@ -28,6 +29,7 @@ use Rattle.machine.specs.Ram.{Cells, cells, at, absent, find, has_at, has, store
 use Rattle.machine.specs.Machine.{Code, Memory, machine}
 use Rattle.machine.specs.Effect.{Call, reset, tip5, u32, ram_read, ram_write}
 use Rattle.machine_effects.specs.EffectView.{u32s_of, access_of, accesses_of, first_accesses, jump_of, calls_of, effect_of}
+use Rattle.machine_effects.proofs.MemoryView.{all-reads}
 use Rattle.machine.specs.Apply.{touched, jumps_after, limits_of}
 use Rattle.machine_perform.specs.PerformView.{no_access, address_at, among_of, has_in, new_of, fresh_of}
 use Rattle.choices.proofs.Choice.{above-is, above-not}
@@ -69,18 +71,18 @@ pub has_in_lem : (c : Cells) (a : ℕ) → has c a ≡ has_in c.addresses c.coun
 unfolding has_in
 has_in_lem c a = has_addresses c [] a
 
-in_at : (c : Cells) (a i : ℕ) → at i ≡ find c a → has_in c.addresses c.count a ≡ true
+pub in_at : (c : Cells) (a i : ℕ) → at i ≡ find c a → has_in c.addresses c.count a ≡ true
 unfolding has
 in_at c a i h = sym (has_in_lem c a) ∙ ap has_at (sym h)
 
-in_absent : (c : Cells) (a i : ℕ) → absent i ≡ find c a → has_in c.addresses c.count a ≡ false
+pub in_absent : (c : Cells) (a i : ℕ) → absent i ≡ find c a → has_in c.addresses c.count a ≡ false
 unfolding has
 in_absent c a i h = sym (has_in_lem c a) ∙ ap has_at (sym h)
 
 -- ---- whether a write adds a cell, and how many do
 
 module _ (s : List ℕ) (n : ℕ) (w : List Access) (k : ℕ) where
-  new_is : (t : Bool) → cond (among_of w k (address_at w k)) true (has_in s n (address_at w k)) ≡ t → new_of s n w k ≡ cond t 0 1
+  pub new_is : (t : Bool) → cond (among_of w k (address_at w k)) true (has_in s n (address_at w k)) ≡ t → new_of s n w k ≡ cond t 0 1
   unfolding new_of
   new_is t e = go (among_of w k (address_at w k)) (has_in s n (address_at w k)) ∙ ap (λ (z : Bool). cond {A = ℕ} z 0 1) e
     where
@@ -91,7 +93,7 @@ module _ (s : List ℕ) (n : ℕ) (w : List Access) (k : ℕ) where
   pub new_among : {a : ℕ} → a ≡ address_at w k → among_of w k a ≡ true → 0 ≡ new_of s n w k
   new_among q e = sym (new_is true (rw (← q, e)))
 
-  new_in_lem : (t : Bool) {a : ℕ} → a ≡ address_at w k → among_of w k a ≡ false → has_in s n a ≡ t → cond t 0 1 ≡ new_of s n w k
+  pub new_in_lem : (t : Bool) {a : ℕ} → a ≡ address_at w k → among_of w k a ≡ false → has_in s n a ≡ t → cond t 0 1 ≡ new_of s n w k
   new_in_lem t q e h = sym (new_is t (rw (← q, e) h))
 
   new_one : new_of s n w k ≤ 1
@@ -263,6 +265,16 @@ read_touch w n c = reads_touch (take n w) c
 
 pub writes_touch : (e : CodeEffect) (c : Cells) → touched c (calls_of e) ≡ touched c (accesses_of e.accesses)
 writes_touch e c = u32s_touch e.u32s (accesses_of e.accesses) c
+
+-- of an effect's accesses the writes alone touch it
+pub accesses_touch : (a : Accesses) (c : Cells) → touched c (accesses_of a) ≡ touched c (first_accesses Write (drop a.reads a.cells) (a.count - a.reads))
+accesses_touch a c =
+    let w = first_accesses Write (drop a.reads a.cells) (a.count - a.reads) in
+    touched_append (first_accesses Read a.cells a.reads) w c ∙ ap (λ (d : Cells). touched d w) (read_touch a.cells a.reads c)
+
+-- and where there is none, all are reads
+pub reads_alone : (a : Accesses) → a.reads ≡ a.count → accesses_of a ≡ first_accesses Read a.cells a.count
+reads_alone a e = rw e (all-reads a.cells a.count)
 
 -- those of a slice u that is the first n
 pub first_slice : (d : Direction) (s u : List Access) (n : ℕ) → u ≡ take n s → first_accesses d u (length u) ≡ first_accesses d s n

@@ -2,10 +2,10 @@
 -- a trace perform as those without. Assumes nothing.
 use mathlib.Core.Path.{◌≡◌, refl, sym, ap, ◌∙◌}
 use mathlib.Core.List.{List, [], ◌∷◌, ◌++◌, map}
-use Prim.Native.Nat.{ℕ, suc, ◌+◌, ◌*◌, ◌≤◌, ◌<◌}
+use Prim.Native.Nat.{ℕ, suc, ◌+◌, ◌-◌, ◌*◌, ◌≤◌, ◌<◌}
 use native.Mathlib.Numerals.{add-one}
 use native.Mathlib.Omega.{arith}
-use lib.ListN.{length, take, get_or}
+use lib.ListN.{length, take, drop, get_or, length-drop}
 use lib.Seq.{length-take-le}
 use Rattle.tip5.specs.declared.sponge.Sponge.{Sponge}
 use Rattle.machine.specs.declared.state.VMState.{VMState}
@@ -135,11 +135,17 @@ accesses_sizes v d [] = refl
 accesses_sizes v Read (x ∷ xs) = omega (arith, accesses_sizes v Read xs)
 accesses_sizes v Write (x ∷ xs) = omega (arith, accesses_sizes v Write xs)
 
-accesses_bytes : (v : ℕ) (a : Accesses) → a.count ≤ length a.cells → call_sizes v (accesses_of a) ≡ 25 * a.count
+row_bytes : (v : ℕ) (d : Direction) (s : List Access) (n : ℕ) → n ≤ length s → call_sizes v (first_accesses d s n) ≡ 25 * n
 unfolding first_accesses
-accesses_bytes v a h =
-    let l : length (take a.count a.cells) ≡ a.count = length-take-le a.count a.cells h in
-    accesses_sizes v a.direction (take a.count a.cells) ∙ ap (λ (n : ℕ). 25 * n) l
+row_bytes v d s n h = accesses_sizes v d (take n s) ∙ ap (λ (k : ℕ). 25 * k) (length-take-le n s h)
+
+accesses_bytes : (v : ℕ) (a : Accesses) → a.reads ≤ a.count → a.count ≤ length a.cells → call_sizes v (accesses_of a) ≡ 25 * a.count
+accesses_bytes v a o h =
+    let s = drop a.reads a.cells in
+    let l : length s ≡ length a.cells - a.reads = length-drop a.reads a.cells in
+    let m : a.count - a.reads ≤ length s = omega (arith, l) in
+    sizes_append v (first_accesses Read a.cells a.reads) (first_accesses Write s (a.count - a.reads))
+    ∙ omega (arith, row_bytes v Read a.cells a.reads (omega (arith, o, h)), row_bytes v Write s (a.count - a.reads) m)
 
 pub fit_of : (m : Machine) (e : CodeEffect) → Sound m → e.pops ≤ 16 → Fit m.state e m.memory
 fit_of m e s p = record {
@@ -193,4 +199,4 @@ u32s_bytes v (Two a b) = omega arith
 
 pub call-bytes : (v : ℕ) (e : CodeEffect) → call_sizes v (effect_of e).calls ≡ call_bytes v e
 unfolding effect_of
-call-bytes v e = sizes_append v (u32s_of e.u32s) (accesses_of e.accesses) ∙ omega (arith, u32s_bytes v e.u32s, accesses_bytes v e.accesses (omega (arith, e.accesses.fits, e.accesses.long)))
+call-bytes v e = sizes_append v (u32s_of e.u32s) (accesses_of e.accesses) ∙ omega (arith, u32s_bytes v e.u32s, accesses_bytes v e.accesses e.accesses.reads_first (omega (arith, e.accesses.fits, e.accesses.long)))

@@ -15,7 +15,7 @@ ghost use Rattle.machine_perform.specs.PerformView.{new_of, fresh_of, Fit, Limit
 use machine::lent::SeenMemory;
 use machine::refusal::PlaceD;
 use machine::state::VMState;
-use machine_effects::effect::{Access, Accesses, Direction, Effect, JumpChange};
+use machine_effects::effect::{Access, Accesses, Effect, JumpChange};
 use machine_ram::ram::Ram;
 
 // How many entries the jump stack has after a change.
@@ -93,10 +93,10 @@ fn check_cells(ram: &Ram<'_>, accesses: &Accesses) -> Result<(), PlaceD>
     requires { (length ram.now.addresses.now ≤ 16777216) × (length ram.now.addresses.now ≡ length ram.now.values.now) }
     ensures { found_d result ≡ above_of (touched (cells_of ram.now) (accesses_of accesses.now)).count (length ram.now.addresses.now) 32 }
 {
-    match accesses.direction {
-        Direction::Read => Ok(()),
-        Direction::Write => check_writes(ram, accesses.as_slice()),
+    if accesses.reads == accesses.count {
+        return Ok(());
     }
+    check_writes(ram, accesses.writes_as_slice())
 }
 
 // The first that applies.

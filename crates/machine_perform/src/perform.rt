@@ -12,7 +12,7 @@ ghost use Rattle.machine_perform.specs.PerformView.{WritesRow, Writes, Moves, mo
 use crate::limits::jumps_after;
 use machine::lent::LentMemory;
 use machine::state::VMState;
-use machine_effects::effect::{Access, Accesses, Direction, Effect, JumpChange};
+use machine_effects::effect::{Access, Accesses, Effect, JumpChange};
 use machine_isa::few::Few;
 use machine_isa::op_stack::apply;
 use machine_ram::ram_mut::RamMut;
@@ -77,10 +77,10 @@ fn write_all(addresses: &mut [u64], values: &mut [u64], count: usize, accesses: 
     requires { Writes (cells count addresses.old values.old) accesses.now }
     ensures { cells result addresses.new values.new ≡ touched (cells count addresses.old values.old) (accesses_of accesses.now) }
 {
-    match accesses.direction {
-        Direction::Read => count,
-        Direction::Write => write_cells(addresses, values, count, accesses.as_slice()),
+    if accesses.reads == accesses.count {
+        return count;
     }
+    write_cells(addresses, values, count, accesses.writes_as_slice())
 }
 
 // Puts words behind those that are out.

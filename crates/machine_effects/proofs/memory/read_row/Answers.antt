@@ -1,5 +1,5 @@
 use Rattle.std.proofs.Common.{◌≡◌, ℕ, ◌*◌, rules, ap, sym, ◌∙◌, arith}
-use Rattle.machine_effects.proofs.MemoryView.{reading_start, reading_turn, reads-all, words-all}
+use Rattle.machine_effects.proofs.MemoryView.{all-reads, reading_start, reading_turn, reads-all, words-all}
 use Rattle.machine_effects.proofs.memory.read_row.Goals as goal
 
 pub loop-i-init : goal.loop-i-init
@@ -13,7 +13,7 @@ returns c =
     let l = c.loop-i in
     let e : l.i ≡ c.args.n = omega arith in
     record {
-      reads = reads-all l.invariant e;
+      reads = all-reads l.cells c.args.n ∙ reads-all l.invariant e;
       words = words-all l.invariant e;
       next = λ k q. l.invariant.next k (q ∙ ap (λ (j : ℕ). j * c.args.step) (sym e));
     }

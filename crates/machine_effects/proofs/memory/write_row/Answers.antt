@@ -3,7 +3,7 @@ use Rattle.std.proofs.lemmas.List.{length-set}
 use Rattle.field.specs.Base.{add_p}
 use Rattle.machine_effects.specs.declared.effect.Direction.TheVariants.{Write}
 use Rattle.machine_effects.specs.EffectView.{first_accesses}
-use Rattle.machine_effects.proofs.MemoryView.{accesses_turn, writes_up_lem, writes-none, done, start, by_next, by_first}
+use Rattle.machine_effects.proofs.MemoryView.{all-writes, accesses_turn, writes_up_lem, writes-none, done, start, by_next, by_first}
 use Rattle.machine_effects.proofs.memory.write_row.Goals as goal
 
 pub loop-i-init : goal.loop-i-init
@@ -32,6 +32,6 @@ returns c =
     let e : l.i ≡ a.n = omega arith in
     let f : l.i * 1 ≡ a.n = omega arith in
     record {
-      writes = done (λ (i : ℕ). first_accesses Write l.cells i) l.i a.n e (writes-none a.w.now.words (l.i + 1) l.address a.n l.i (omega arith)) l.invariant.2;
+      writes = all-writes l.cells a.n ∙ done (λ (i : ℕ). first_accesses Write l.cells i) l.i a.n e (writes-none a.w.now.words (l.i + 1) l.address a.n l.i (omega arith)) l.invariant.2;
       after = l.invariant.1 ∙ ap (λ (i : ℕ). add_p a.start i) f;
     }

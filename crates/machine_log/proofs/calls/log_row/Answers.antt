@@ -1,7 +1,7 @@
-use Rattle.std.proofs.Common.{refl, arith}
+use Rattle.std.proofs.Common.{◌≡◌, length, refl, arith}
 use Rattle.machine_log.specs.Logged.{ram_records}
-use Rattle.machine_log.proofs.Logged.{any_none, any-more, ram-more, ram-all}
-use Rattle.machine_log.proofs.calls.log_accesses.Goals as goal
+use Rattle.machine_log.proofs.Logged.{any_none, any-more, ram-more}
+use Rattle.machine_log.proofs.calls.log_row.Goals as goal
 
 pub loop-access-init : goal.loop-access-init
 unfolding ram_records
@@ -14,7 +14,5 @@ loop-access-preserved c =
 
 pub returns : goal.returns
 returns c =
-    let a = c.args.accesses.now in
-    let e = c.as_slice-all.ensures in
-    let r = ram-all c.args.clock a.direction a.cells _ a.count c.loop-access.access-index e.cells e.count (omega arith) in
-    rw (r.0, r.1) at c.loop-access.invariant
+    let e : c.loop-access.access-index ≡ length c.args.accesses.now = omega arith in
+    rw e at c.loop-access.invariant
