@@ -15,9 +15,10 @@ use Rattle.machine.specs.Machine.{st}
 use Rattle.machine.specs.Ram.{Cells, held}
 use Rattle.machine.specs.Effect.{Call, ram_read, ram_write}
 use Rattle.machine_effects.specs.declared.effect.Access.{Access}
+use Rattle.machine_effects.specs.declared.effect.Accesses.{Accesses}
 use Rattle.machine_effects.specs.declared.effect.Direction.{Direction}
 use Rattle.machine_effects.specs.declared.effect.Direction.TheVariants.{Read, Write}
-use Rattle.machine_effects.specs.EffectView.{access_of, first_accesses}
+use Rattle.machine_effects.specs.EffectView.{access_of, first_accesses, accesses_of}
 use Rattle.machine.specs.Memory.{words_by, reads_by, down, writes_up}
 
 -- one access more, at the end
@@ -41,7 +42,7 @@ pub start : (d : Direction) (s : List Access) (rest : List Call) → first_acces
 unfolding first_accesses
 start d s rest = refl
 
--- accesses that are all reads, or all writes
+-- accesses that are all reads, or all writes, and none
 pub all-reads : (s : List Access) (n : ℕ) → first_accesses Read s n ++ first_accesses Write (drop n s) (n - n) ≡ first_accesses Read s n
 unfolding first_accesses
 all-reads s n = let z : n - n ≡ 0 = omega arith in rw z (append-nil (map (access_of Read) (take n s)))
@@ -49,6 +50,13 @@ all-reads s n = let z : n - n ≡ 0 = omega arith in rw z (append-nil (map (acce
 pub all-writes : (s : List Access) (n : ℕ) → first_accesses Read s 0 ++ first_accesses Write (drop 0 s) (n - 0) ≡ first_accesses Write s n
 unfolding first_accesses
 all-writes s n = let z : n - 0 ≡ n = omega arith in rw z refl
+
+pub no-accesses : (a : Accesses) → a.count ≡ 0 → accesses_of a ≡ []
+unfolding first_accesses
+no-accesses a e =
+    let n : a.count - a.reads ≡ 0 = omega arith in
+    let r : a.reads ≡ 0 = omega (arith, a.reads_first) in
+    rw (n, r) refl
 
 -- ---- the address after so many
 

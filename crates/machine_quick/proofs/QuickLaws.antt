@@ -18,7 +18,8 @@ use Rattle.machine.specs.Instruction.{decode, size_of}
 use Rattle.machine.specs.Machine.{Memory, Machine, machine, memory}
 use Rattle.machine.specs.Effect.{Next, stays, keeps, Effect, acts}
 use Rattle.machine_isa.specs.FewWords.{words_of}
-use Rattle.machine_effects.specs.EffectView.{first_accesses, next_of, effect_of, decision_of}
+use Rattle.machine_effects.specs.EffectView.{next_of, effect_of, decision_of}
+use Rattle.machine_effects.proofs.MemoryView.{no-accesses}
 use Rattle.machine.specs.Decide.{opcode_of, argument_of, decide_of}
 use Rattle.machine.specs.Apply.{took, touched, applied_stack, pointer_after, performed, limits_of, settled}
 use Rattle.machine.specs.Records.{call_records, stack_records}
@@ -43,8 +44,8 @@ moving n ws q =
     record { pops = n; words = ws; next = q; halts = false; jump = stays; publics = 0; secrets = 0; digests = 0; output = []; sponge = keeps; calls = [] }
 
 still_effect : (e : CodeEffect) → Still e → effect_of e ≡ moving e.pops (words_of e.words) (next_of e.next)
-unfolding effect_of first_accesses
-still_effect e s = rw (s.halts, s.jump, s.publics, s.secrets, s.digests, s.output, s.u32s, s.accesses)
+unfolding effect_of
+still_effect e s = rw (s.halts, s.jump, s.publics, s.secrets, s.digests, s.output, s.u32s, no-accesses e.accesses s.accesses)
 
 first-not : {a b : ℕ} → a ≡ 0 → b ≡ 0 → first_of a b ≡ 0
 first-not {a} {b} x y = first_zero a b x ∙ y
