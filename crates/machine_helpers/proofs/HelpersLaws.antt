@@ -14,13 +14,14 @@ use Rattle.machine_effects.specs.declared.memory.Row.{Row}
 use Rattle.choices.specs.Choice.{cond}
 use Rattle.machine.specs.Instruction.{decode}
 use Rattle.machine.specs.Ram.{Cells}
-use Rattle.machine.specs.Machine.{Machine}
+use Rattle.machine.specs.Machine.{Machine, machine, code, memory}
 use Rattle.machine.specs.Decide.{opcode_of, argument_of}
 use Rattle.machine.specs.HelperVariables.{filled, helpers_in, helpers_at}
 use Rattle.machine.specs.Memory.{words_up}
 use Rattle.machine_effects.specs.MemoryView.{ReadBy}
 use Rattle.machine.specs.Sound.{Sound}
-use Rattle.machine_helpers.specs.HelpersView.{Helpable}
+use Rattle.machine_helpers.specs.HelpersView.{Shows, HelpersOf, Helpable, HelpersAlike, HelpersAre}
+use Rattle.machine_helpers.specs.declared.seen.Seen.{Seen}
 use Rattle.machine_isa.proofs.TableLaws.{OneOf}
 
 -- ---- the first words of a row
@@ -75,6 +76,27 @@ sound-helpable m s =
       digests = s.digests;
       usable = record { ordered = record { within = s.cells.used; ascending = s.cells.ascending }; values = rw (← s.cells.pair) s.cells.used };
     }
+
+-- ---- machines that show the same
+
+pub shows_alike : {m x : Machine} {s : Seen} → HelpersAlike m x → Shows m s → Shows x s
+shows_alike a h =
+    record {
+      top = a.top ∙ h.top;
+      pointer = a.pointer ∙ h.pointer;
+      opcodes = a.opcodes ∙ h.opcodes;
+      arguments = a.arguments ∙ h.arguments;
+      digests = a.digests ∙ h.digests;
+      cells = a.cells ∙ h.cells;
+    }
+
+pub of_machine : (m : Machine) {s : Seen} {r : List ℕ} → HelpersOf s r → Shows m s → (r ≡ helpers_at m) × HelpersAre m r
+of_machine m k h = (k.is m h, record { is = λ x a. k.is x (shows_alike a h) })
+
+-- inputs, jump stack and output may be others
+pub alike_slices : (m : Machine) (public secret origins destinations output : List ℕ) →
+    HelpersAlike m (machine m.state (code m.code.opcodes m.code.arguments public secret m.code.digests) (memory m.memory.op_stack origins destinations m.memory.addresses m.memory.values output))
+alike_slices m public secret origins destinations output = record { top = refl; pointer = refl; opcodes = refl; arguments = refl; digests = refl; cells = refl }
 
 -- ---- the machine that shows what is handed
 

@@ -36,3 +36,16 @@ pub record Helpable (m : Machine) : Type 0 where
   pub words : Words m.memory.op_stack
   pub digests : 5 * m.state.digests ≤ length m.code.digests
   pub usable : Usable (ram m)
+
+-- another one shows the same to the helper variables
+pub record HelpersAlike (m x : Machine) : Type 0 where
+  pub top : M.top x ≡ M.top m
+  pub pointer : x.state.pointer ≡ m.state.pointer
+  pub opcodes : x.code.opcodes ≡ m.code.opcodes
+  pub arguments : x.code.arguments ≡ m.code.arguments
+  pub digests : digests_left x ≡ digests_left m
+  pub cells : ram x ≡ ram m
+
+-- of m and of all that show the same, whatever else they have
+pub record HelpersAre (m : Machine) (r : List ℕ) : Type 0 where
+  pub is : (x : Machine) → HelpersAlike m x → r ≡ helpers_at x

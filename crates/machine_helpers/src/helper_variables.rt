@@ -7,7 +7,7 @@ ghost use Rattle.machine.specs.Lent.{code_of, seen};
 ghost use Rattle.machine.specs.Memory.{words_up};
 ghost use Rattle.machine.specs.HelperVariables.{filled, argument_bits, next_opcode, opcode_parts, split_helper, next_digest, helpers_at};
 ghost use Rattle.machine_ram.specs.LentCells.{cells_of};
-ghost use Rattle.machine_helpers.specs.HelpersView.{HelpsAs, HelpersOf, Helpable};
+ghost use Rattle.machine_helpers.specs.HelpersView.{HelpsAs, HelpersOf, Helpable, HelpersAre};
 
 use crate::seen::Seen;
 use field::base;
@@ -176,7 +176,8 @@ impl Seen<'_> {
 
 pub fn helpers<'a>(state: &VMState, code: &LentCode<'a>, memory: &SeenMemory<'a>) -> [u64; 6]
     requires { Helpable (machine state.now (code_of code.now) (seen memory.now)) }
-    ensures { result ≡ helpers_at (machine state.now (code_of code.now) (seen memory.now)) }
+    ensures own { result ≡ helpers_at (machine state.now (code_of code.now) (seen memory.now)) }
+    ensures alike { HelpersAre (machine state.now (code_of code.now) (seen memory.now)) result }
 {
     let top = Top::of(memory.op_stack, state.depth);
     let ram = Ram {

@@ -2,22 +2,25 @@
 use mathlib.Core.Path.{◌≡◌, refl, sym, ap, subst, ◌∙◌}
 use mathlib.Core.Bool.{Bool, true, false, true≢false}
 use mathlib.Core.List.{List, [], ◌∷◌, ◌++◌, append-nil}
-use Prim.Native.Nat.{ℕ, ◌+◌, ◌/◌, ◌%◌, ◌^◌}
+use Prim.Native.Nat.{ℕ, ◌+◌, ◌*◌, ◌/◌, ◌%◌, ◌^◌}
 use native.Mathlib.Omega.{arith}
-use lib.ListN.{length, get_or, drop_of_length-le}
+use lib.ListN.{length, get_or, drop, drop_of_length-le}
 use lib.Seq.{sets, sets-eq, take_all}
 use borrow.Rule.Slice.PartMut.{put_mid}
 use lib.Dec.{eqb, ltb}
 use Rattle.choices.specs.Choice.{cond}
 use Rattle.machine.specs.Instruction.{size_of}
-use Rattle.machine.specs.Machine.{Machine, jump_top, top}
+use Rattle.machine.specs.declared.state.VMState.{VMState}
+use Rattle.machine.specs.Ram.{cells}
+use Rattle.machine.specs.Machine.{Machine, jump_top, top_of, top}
 use Rattle.machine.specs.HelperVariables.{next_opcode, helpers_at}
 use Rattle.machine.specs.Sound.{Sound}
 use Rattle.machine.specs.ProcessorRow.{current_instruction, next_instruction_or_argument, instruction_bits, jump_words, stack_words, row_of}
 use Rattle.machine_decide.specs.DecideView.{last_of}
 use Rattle.machine_log.proofs.Logged.{logged_none, put_logged}
 use Rattle.machine_helpers.proofs.HelpersLaws.{took, sound-helpable}
-use Rattle.machine_rows.specs.RowView.{Rowable, RowTaken, RowPut}
+use Rattle.machine_helpers.specs.HelpersView.{HelpersAlike, HelpersAre}
+use Rattle.machine_rows.specs.RowView.{Rowable, Shown, shown_in, row_alike, RowTaken, RowPut}
 
 -- the top of the jump stack
 pub jump_is : (m : Machine) → jump_top m ≡ last_of m.memory.origins m.memory.destinations m.state.jumps
@@ -55,6 +58,30 @@ row_is m a b j g i q =
     q
     ∙ (λ z. (m.state.clock ∷ m.state.pointer % 2 ^ 32 ∷ a z ∷ b z ∷ []) ++ instruction_bits (a z) ++ (m.state.jumps ∷ j z) ++ stack_words (g z) ++ (m.state.depth ∷ i z))
 
+-- ---- of all that show the same
+
+module _ (m : Machine) (s : VMState) (public secret output : List ℕ) (e : shown_in s ≡ shown_in m.state) where
+  row_helpers : HelpersAlike m (row_alike m s public secret output)
+  row_helpers =
+      record {
+        top = λ i. top_of m.memory.op_stack (e i).depth;
+        pointer = ap (λ (z : Shown). z.pointer) e;
+        opcodes = refl;
+        arguments = refl;
+        digests = λ i. drop (5 * (e i).digests) m.code.digests;
+        cells = λ i. cells (e i).cells m.memory.addresses m.memory.values;
+      }
+
+  -- the columns but for the helper variables are read off what is the same
+  pub row_alike_is : {r h : List ℕ} → r ≡ row_of m → h ≡ helpers_at m → HelpersAre m h → r ≡ row_of (row_alike m s public secret output)
+  unfolding row_of current_instruction next_instruction_or_argument jump_top
+  row_alike_is q a k =
+      let o = m.code.opcodes in
+      let ci : Shown → ℕ = λ z. cond (ltb z.pointer (length o)) (get_or o z.pointer 0) 8 in
+      let ni : Shown → ℕ = λ z. cond (ltb z.pointer (length o)) (cond (eqb (size_of (get_or o z.pointer 0)) 2) (get_or m.code.arguments z.pointer 0) (next_opcode o z.pointer)) 0 in
+      let w : Shown → List ℕ → List ℕ = λ z h. (z.clock ∷ z.pointer % 2 ^ 32 ∷ ci z ∷ ni z ∷ []) ++ instruction_bits (ci z) ++ (z.jumps ∷ jump_words (last_of m.memory.origins m.memory.destinations z.jumps)) ++ stack_words (top_of m.memory.op_stack z.depth) ++ (z.depth ∷ h) in
+      q ∙ ap (w (shown_in m.state)) (sym a ∙ k.is _ row_helpers) ∙ (λ i. w (sym e i) (helpers_at (row_alike m s public secret output)))
+
 -- ---- a row that is copied
 
 pub row_put : (t row copied : List ℕ) (at k : ℕ) → length row ≡ 37 → copied ≡ row → k ≡ 37 → RowPut true t at row (put_mid at k t copied) (at + 37)
@@ -70,7 +97,7 @@ module _ {u : Bool} (h : u ≡ false) where
   put_unasked t row at = rw h (record { place = omega arith; table = logged_none t at })
 
   pub taken_unasked : {m : Machine} {row : List ℕ} → RowTaken u m row
-  taken_unasked = record { asked = λ e. absurd (true≢false (sym e ∙ h)) }
+  taken_unasked = record { asked = λ e. absurd (true≢false (sym e ∙ h)); alike = λ e. absurd (true≢false (sym e ∙ h)) }
 
 -- ---- what a sound machine gives
 

@@ -7,7 +7,7 @@ ghost use Rattle.machine.specs.Lent.{code_of, seen};
 ghost use Rattle.machine.specs.HelperVariables.{next_opcode};
 ghost use Rattle.machine.specs.ProcessorRow.{instruction_bits, jump_words, stack_words, row_of};
 ghost use Rattle.machine_effects.specs.EffectView.{jump_top_of};
-ghost use Rattle.machine_rows.specs.RowView.{Rowable, RowTaken, RowPut};
+ghost use Rattle.machine_rows.specs.RowView.{Rowable, RowIs, RowTaken, RowPut};
 
 use machine::lent::{LentCode, SeenMemory};
 use machine::state::VMState;
@@ -114,7 +114,8 @@ fn entry_or_zeros(top: Option<JumpEntry>) -> JumpEntry
 
 pub fn write_row(row: &mut [u64], state: &VMState, code: &LentCode<'_>, memory: &SeenMemory<'_>)
     requires { (length row.old ≡ 37) × Rowable (machine state.now (code_of code.now) (seen memory.now)) }
-    ensures { row.new ≡ row_of (machine state.now (code_of code.now) (seen memory.now)) }
+    ensures own { row.new ≡ row_of (machine state.now (code_of code.now) (seen memory.now)) }
+    ensures alike { RowIs (machine state.now (code_of code.now) (seen memory.now)) row.new }
 {
     let top = Top::of(memory.op_stack, state.depth);
     let h = helpers(state, code, memory);

@@ -12,4 +12,4 @@ helpers-requires c =
     sound-helpable _ (accepted_sound _ c.in_ok-check_machine.ensures sixteen (search rules))
 
 pub returns : goal.returns
-returns c = given_is _ c.in_ok-check_machine.ensures 6 c.helpers.ensures
+returns c = given_is _ c.in_ok-check_machine.ensures 6 c.helpers.ensures.own

@@ -12,4 +12,4 @@ write_row-requires c =
     (refl, sound-rowable _ (accepted_sound _ c.in_ok-check_machine.ensures sixteen (search rules)))
 
 pub returns : goal.returns
-returns c = given_is _ c.in_ok-check_machine.ensures 37 c.write_row.ensures
+returns c = given_is _ c.in_ok-check_machine.ensures 37 c.write_row.ensures.own

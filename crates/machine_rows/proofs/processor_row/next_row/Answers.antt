@@ -8,5 +8,5 @@ returns-then-not-asked c = (put_unasked c.if-not-asked.true _ _ _, taken_unasked
 pub returns : goal.returns
 returns c = (
   put-asked c.if-not-asked.false (row_put _ _ _ _ _ c.requires.1 c.copy_from_slice.ensures.after (omega arith)),
-  record { asked = λ _. c.write_row.ensures },
+  record { asked = λ _. c.write_row.ensures.own; alike = λ _. c.write_row.ensures.alike },
 )
