@@ -8,6 +8,7 @@ use machine::refusal::PlaceB;
 use machine::state::VMState;
 use machine_isa::instruction;
 
+#[inline(always)]
 pub fn place_b(state: &VMState, code: &LentCode<'_>) -> Result<(), PlaceB>
     requires { Slots state.now code.now.opcodes.now code.now.arguments.now }
     ensures { found_b result ≡ place_b state.now code.now.opcodes.now code.now.arguments.now }

@@ -1,4 +1,5 @@
-// The instructions that move words of the op stack.
+// The instructions that move words of the op stack. Those that take a word at a place of their argument take it from a copy: where they are compiled into a
+// loop, the sixteen words that others take by their names need not lie side by side for them.
 ghost use Rattle.std.specs.Prelude.{◌≡◌, ◌<◌};
 ghost use Rattle.machine_effects.specs.EffectView.{decision_of};
 ghost use Rattle.machine.specs.Stack.{push_of, pop_of, pick_of, place_of, dup_of, swap_of};
@@ -24,10 +25,11 @@ pub fn pick(w: &Top, i: usize) -> Decided
     requires { i < 16 }
     ensures { decision_of result ≡ pick_of w.now.words i }
 {
+    let top = *w;
     let mut words = w.words;
     let j = 15 - i;
     words.copy_within(j + 1..16, j);
-    words[15] = w.st(i);
+    words[15] = top.st(i);
     Ok(Effect::puts(16, Few::of(words)))
 }
 
@@ -36,10 +38,11 @@ pub fn place(w: &Top, i: usize) -> Decided
     requires { i < 16 }
     ensures { decision_of result ≡ place_of w.now.words i }
 {
+    let top = *w;
     let mut words = w.words;
     let j = 15 - i;
     words.copy_within(j..15, j + 1);
-    words[j] = w.st(0);
+    words[j] = top.st(0);
     Ok(Effect::puts(16, Few::of(words)))
 }
 
@@ -47,15 +50,17 @@ pub fn dup(w: &Top, i: usize) -> Decided
     requires { i < 16 }
     ensures { decision_of result ≡ dup_of w.now.words i }
 {
-    Ok(Effect::puts(0, Few::of([w.st(i)])))
+    let top = *w;
+    Ok(Effect::puts(0, Few::of([top.st(i)])))
 }
 
 pub fn swap(w: &Top, i: usize) -> Decided
     requires { i < 16 }
     ensures { decision_of result ≡ swap_of w.now.words i }
 {
+    let top = *w;
     let mut words = w.words;
-    words[15] = w.st(i);
-    words[15 - i] = w.st(0);
+    words[15] = top.st(i);
+    words[15 - i] = top.st(0);
     Ok(Effect::puts(16, Few::of(words)))
 }

@@ -1,5 +1,5 @@
 -- What the code of a quick step relies on and promises: one that changes the op stack, the pointer and the clock alone.
-use Rattle.std.specs.Prelude.{ℕ, ◌+◌, ◌-◌, ◌≤◌, ◌≡◌, Bool, true, false, List, length, Result, Ok, Option, Some, None}
+use Rattle.std.specs.Prelude.{ℕ, ◌+◌, ◌-◌, ◌≤◌, ◌≡◌, Bool, true, false, List, [], length, Result, Ok, Option, Some, None}
 use Rattle.machine.specs.declared.state.VMState.{VMState}
 use Rattle.machine_effects.specs.declared.effect.Effect.{Effect as CodeEffect}
 use Rattle.machine_effects.specs.declared.effect.Refused.{Refused}
@@ -15,6 +15,7 @@ use Rattle.machine.specs.Records.{stack_records}
 use Rattle.machine.specs.Step.{records_in, outcome_by}
 use Rattle.machine.specs.Sound.{Sound}
 use Rattle.machine_quick.specs.declared.quick.QuickStep.{QuickStep}
+use Rattle.machine_quick.specs.declared.quick.Beside.{Beside}
 use Rattle.machine_decide.specs.declared.handed.Handed.{Handed}
 use Rattle.machine_decide.specs.DecideView.{Acted, plain_alike}
 use Rattle.machine_step.specs.AdvanceView.{goes_from}
@@ -62,6 +63,10 @@ Changed s e op w (Some r) w2 = Shift s e op w r w2
 Changed s e op w None w2 = w2 ≡ w
 
 -- ---- a quick step
+
+-- memory as it is lent: the op stack, and beside it jump stack and RAM; no output
+abbrev pub lent_beside : List ℕ → Beside → Memory
+lent_beside s b = memory s b.origins.now b.destinations.now b.addresses.now b.values.now []
 
 -- the registers after it
 abbrev pub onward_as : VMState → QuickStep → Bool → VMState

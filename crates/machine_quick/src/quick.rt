@@ -1,11 +1,12 @@
 // A quick step: one that changes the op stack, the pointer and the clock alone, as most steps of a run do. Its effect is not handed on, so
 // nothing but what it needs is made of it.
+ghost use Rattle.std.specs.Prelude.{◌≡◌};
 ghost use Rattle.machine.specs.Machine.{machine};
-ghost use Rattle.machine.specs.Lent.{code_of, memory_of, Keeps};
+ghost use Rattle.machine.specs.Lent.{code_of, seen};
 ghost use Rattle.machine_decide.specs.DecideView.{Reliable};
-ghost use Rattle.machine_quick.specs.QuickView.{ActedQuick, Quiet, Changing, Changed, Walking, Quicked};
+ghost use Rattle.machine_quick.specs.QuickView.{ActedQuick, Quiet, Changing, Changed, lent_beside, Walking, Quicked};
 
-use machine::lent::{LentCode, LentMemory};
+use machine::lent::{LentCode, SeenMemory};
 use machine::refusal::{InstructionError, PlaceA};
 use machine::state::VMState;
 use machine_arithmetic::arithmetic;
@@ -21,6 +22,30 @@ use machine_step::advance::next;
 pub struct QuickStep {
     pub pointer: u64,
     pub depth: usize,
+}
+
+// The memory that a quick step only looks at: jump stack and RAM. The output it does not look at.
+#[derive(Clone, Copy)]
+pub struct Beside<'a> {
+    pub origins: &'a [u64],
+    pub destinations: &'a [u64],
+    pub addresses: &'a [u64],
+    pub values: &'a [u64],
+}
+
+impl Beside<'_> {
+    fn look<'b>(&'b self, op_stack: &'b [u64]) -> SeenMemory<'b>
+        ensures { seen result ≡ lent_beside op_stack.now self.now }
+    {
+        SeenMemory {
+            op_stack,
+            origins: self.origins,
+            destinations: self.destinations,
+            addresses: self.addresses,
+            values: self.values,
+            output: &[],
+        }
+    }
 }
 
 // The instructions that are tried. A refusal, of any other instruction too, is for a step that is not quick.
@@ -78,7 +103,8 @@ fn change(state: &VMState, e: &Effect, opcode: u64, op_stack: &mut [u64]) -> Opt
     if !quiet(e) {
         return None;
     }
-    apply(op_stack, state.depth, e.pops, &e.words);
+    let words = e.words;
+    apply(op_stack, state.depth, e.pops, &words);
     Some(QuickStep {
         pointer: next(e.next, state.pointer, opcode),
         depth: depth,
@@ -86,17 +112,21 @@ fn change(state: &VMState, e: &Effect, opcode: u64, op_stack: &mut [u64]) -> Opt
 }
 
 // A quick step of a sound machine that is not halted, where there is one.
-pub fn quick(state: &VMState, code: &LentCode<'_>, memory: &mut LentMemory<'_>) -> Option<QuickStep>
-    requires { Walking (machine state.now (code_of code.now) (memory_of memory.old)) }
-    ensures quicked { Quicked (machine state.now (code_of code.now) (memory_of memory.old)) result (memory_of memory.new) }
-    ensures lent { Keeps memory.old memory.new }
+pub fn quick(
+    state: &VMState,
+    code: &LentCode<'_>,
+    op_stack: &mut [u64],
+    beside: &Beside<'_>,
+) -> Option<QuickStep>
+    requires { Walking (machine state.now (code_of code.now) (lent_beside op_stack.old beside.now)) }
+    ensures { Quicked (machine state.now (code_of code.now) (lent_beside op_stack.old beside.now)) result (lent_beside op_stack.new beside.now) }
 {
     if let Err(_) = place_b(state, code) {
         return None;
     }
     let opcode = code.opcodes[state.pointer as usize];
-    match act(&hand_over(state, code, &memory.look())) {
-        Ok(effect) => change(state, &effect, opcode, memory.op_stack),
+    match act(&hand_over(state, code, &beside.look(op_stack))) {
+        Ok(effect) => change(state, &effect, opcode, op_stack),
         Err(_) => None,
     }
 }

@@ -39,7 +39,7 @@ use Rattle.machine_log.proofs.Logged.{logged_none, logged-front, logged-logged, 
 use Rattle.machine_perform.specs.declared.answer.Stepped.{Stepped}
 use Rattle.machine_perform.specs.AnswerView.{did, turned, answer_in, Gives}
 use Rattle.machine_quick.specs.declared.quick.QuickStep.{QuickStep}
-use Rattle.machine_quick.specs.QuickView.{onward_to, StepsTo, Taken}
+use Rattle.machine_quick.specs.QuickView.{onward_to, StepsTo, with_stack, Walking, Taken, Quicked}
 use Rattle.machine_rows.specs.RowView.{RowTaken, RowPut}
 use Rattle.machine_step.specs.AdvanceView.{advanced_by, Advanced}
 use Rattle.machine_step.specs.RecordsView.{RoomyAt, RecordedAt}
@@ -143,6 +143,21 @@ took-stack m x s h = of (step-took decide_of m x h)
         let l = limits_fit m k.effect k.limits in
         ap (λ (y : Machine). length y.memory.op_stack) (sym k.is)
         ∙ applied_length m.memory.op_stack k.effect.words m.state.depth k.effect.pops (omega (arith, f.pops, s.deep)) s.op_stack.used l.depth
+
+-- ---- a quick step is lent the op stack to change, and of the rest what it looks at
+
+abbrev bare : Machine → Machine
+bare m = machine m.state m.code (memory m.memory.op_stack m.memory.origins m.memory.destinations m.memory.addresses m.memory.values [])
+
+pub walks_bare : {m : Machine} → Walking m → Walking (bare m)
+walks_bare h = record { digests = h.digests; output = h.output; sound = h.sound; on = h.on }
+
+abbrev with_output : Memory → List ℕ → Memory
+with_output n x = memory n.op_stack n.origins n.destinations n.addresses n.values x
+
+pub quick_lent : (m : Machine) (r : Option QuickStep) (n : Memory) → Quicked (bare m) r n → Quicked m r (with_output n m.memory.output)
+quick_lent m (Some r) n k = record { rest = ap (λ (y : Memory). with_output y m.memory.output) k.rest; steps = k.steps }
+quick_lent m None n k = ap (λ (y : Memory). with_output y m.memory.output) k
 
 -- ---- one step behind place `at` of the log
 

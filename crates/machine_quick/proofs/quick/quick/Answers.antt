@@ -19,8 +19,8 @@ act-requires c = c.hand_over.ensures.reliable
 pub change-requires : goal.change-requires
 change-requires c = quick_changing c.requires c.in_default.ensures (rw c.look.ensures at c.hand_over.ensures.slot) (rw c.look.ensures at c.hand_over.ensures.shows) c.act.ensures c.in-Ok.is
 
-pub returns-in-Ok-clause-quicked : goal.returns-in-Ok-clause-quicked
-returns-in-Ok-clause-quicked c =
+pub returns-in-Ok : goal.returns-in-Ok
+returns-in-Ok c =
     quick_done c.requires c.in_default.ensures (rw c.look.ensures at c.hand_over.ensures.slot) (rw c.look.ensures at c.hand_over.ensures.shows) c.act.ensures c.in-Ok.is c.change.result _ c.change.ensures
 
 pub offset_bounds-code-state : goal.offset_bounds-code-state

@@ -1,10 +1,10 @@
 use Rattle.std.proofs.Common.{◌∙◌, sym, ap, arith}
 use Rattle.machine.specs.Machine.{Memory}
-use Rattle.machine_steps.proofs.StepsLaws.{quick_taken, quick_room, quick_clock, quick_stepped, advanced_fits, advanced_stepped, advanced-refused}
+use Rattle.machine_steps.proofs.StepsLaws.{quick_taken, quick_room, quick_clock, quick_stepped}
 use Rattle.machine_steps.proofs.steps.step_at.Goals as goal
 
-pub quick-requires : goal.quick-requires
-quick-requires c = record { digests = _; output = _; sound = c.requires.sound; on = c.requires.on }
+pub quick_at-requires : goal.quick_at-requires
+quick_at-requires c = record { digests = _; output = _; sound = c.requires.sound; on = c.requires.on }
 
 pub moved-next-requires : goal.moved-next-requires
 moved-next-requires c = rw (ap (λ (m : Memory). m.op_stack) c.look.ensures) (quick_room c.requires (quick_taken c.requires c.in-Some.ensures.quicked))
@@ -16,10 +16,5 @@ pub returns-in-Some-clause-stepped : goal.returns-in-Some-clause-stepped
 returns-in-Some-clause-stepped c =
     quick_stepped c.requires (quick_taken c.requires c.in-Some.ensures.quicked) (rw (ap (λ (m : Memory). m.op_stack) c.look.ensures) at c.moved-next.ensures)
 
-pub returns-in_err-stepped-clause-stepped : goal.returns-in_err-stepped-clause-stepped
-returns-in_err-stepped-clause-stepped c =
-    advanced-refused c.requires (rw c.in_default.ensures.quicked at c.advance-stepped.ensures.advanced) _ c.in_err-stepped.was c.from_residual.ensures.1
-
 pub returns-clause-stepped : goal.returns-clause-stepped
-returns-clause-stepped c =
-    advanced_stepped c.requires (rw c.in_default.ensures.quicked at c.advance-stepped.ensures.advanced) c.in_ok-stepped.was
+returns-clause-stepped c = rw c.in_default.ensures.quicked at c.advance_at.ensures.stepped

@@ -25,22 +25,22 @@ pub price-fee-requires : goal.price-fee-requires
 price-fee-requires c =
     price_there _ c.requires.pricing (steps-priced c.loop-count.invariant.going c.loop-count-test.true c.if-not-now.true (sym c.short.ensures ∙ c.if-short.false) c.in-Ok.ensures.stepped)
 
-pub next_row-filled-requires : goal.next_row-filled-requires
-next_row-filled-requires c =
+pub put_row-filled-requires : goal.put_row-filled-requires
+put_row-filled-requires c =
     let l = c.loop-count.invariant in
     let room = sym c.short.ensures ∙ c.if-short.false in (
       row_room l.going c.loop-count-test.true c.if-not-now.true room,
       l.long,
-      rw c.look-in-loop-count.ensures (sound-rowable _ (steps-sound l.going c.loop-count-test.true c.if-not-now.true room c.in-Ok.ensures.stepped)),
+      (sound-rowable _ (steps-sound l.going c.loop-count-test.true c.if-not-now.true room c.in-Ok.ensures.stepped)),
     )
 
 pub loop-count-preserved : goal.loop-count-preserved
 loop-count-preserved c =
     let l = c.loop-count.invariant in
     record {
-      going = steps_go l.going c.loop-count-test.true c.if-not-now.true (sym c.short.ensures ∙ c.if-short.false) c.in-Ok.ensures.stepped l.row c.next_row-filled.ensures.0 (ap (λ i. c.loop-count.fee + i) c.price-fee.ensures);
-      row = rw (sym c.look-in-loop-count.ensures) c.next_row-filled.ensures.1;
-      long = omega (arith, c.next_row-filled.auto, l.long);
+      going = steps_go l.going c.loop-count-test.true c.if-not-now.true (sym c.short.ensures ∙ c.if-short.false) c.in-Ok.ensures.stepped l.row c.put_row-filled.ensures.0 (ap (λ i. c.loop-count.fee + i) c.price-fee.ensures);
+      row = c.put_row-filled.ensures.1;
+      long = omega (arith, c.put_row-filled.auto, l.long);
       lent = keeps_on l.lent c.step_at.ensures.lent;
     }
 
