@@ -1,6 +1,6 @@
 // Replay: a log of a revision, read up to a clock, rebuilds depth, the words below the top sixteen and RAM, or is refused. All is decided
 // before RAM is written.
-ghost use Rattle.std.specs.Prelude.{◌≡◌, ◌<◌, IfOk};
+ghost use Rattle.std.specs.Prelude.{◌≡◌, ◌<◌, IfOk, OnErr};
 ghost use Rattle.replay.specs.Replay.{replay_of};
 ghost use Rattle.replay_scan.specs.FaultView.{fault_or_0};
 ghost use Rattle.replay_scan.specs.RecordView.{log_at};
@@ -129,6 +129,7 @@ pub fn replay(
     clock: u64,
 ) -> Result<usize, Refusal>
     ensures replayed { replayed_by result words.new (cells_of_mut cells.new) ≡ replay_of log.entry.revision log.entry.bytes.now (cells_of_mut cells.old) words.old clock }
+    ensures unchanged { OnErr result (cells_of_mut cells.new ≡ cells_of_mut cells.old) }
     ensures kept { Kept cells.old cells.new }
 {
     check_replay(log, cells, words)?;
