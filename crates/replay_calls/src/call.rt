@@ -7,7 +7,7 @@ ghost use Rattle.replay_scan.specs.RecordView.{log_at};
 ghost use Rattle.replay_scan.specs.Walk.{Walked};
 ghost use Rattle.replay_table.specs.Merge.{Sorted};
 ghost use Rattle.machine_ram.specs.LentCells.{cells_of_mut};
-ghost use Rattle.replay_table.specs.LentView.{Kept, KeptTable};
+ghost use Rattle.replay_table.specs.LentView.{Kept, KeptTable, seen_cells};
 ghost use Rattle.replay_group.specs.GroupView.{LentTo};
 ghost use Rattle.replay_group.specs.Decided.{Decides, LeftIn, Scans, Rebuilds};
 ghost use Rattle.replay_calls.specs.RefusalView.{number_in};
@@ -21,7 +21,7 @@ use replay_group::write::write_back;
 use replay_scan::fault::Fault;
 use replay_scan::record::Log;
 use replay_scan::scan::{Scan, scan_log};
-use replay_table::cells::Cells;
+use replay_table::cells::{Cells, SeenCells, look};
 use replay_table::table::Table;
 
 // Behind a scan that ended at place `to`, maybe at a fault: a wrong read before it, or no room for the cells that the records before that take. Else
@@ -30,11 +30,11 @@ fn decide(
     log: Log<'_>,
     to: usize,
     fault: Option<Fault>,
-    cells: &Cells<'_>,
+    cells: &SeenCells<'_>,
     table: &mut Table<'_>,
 ) -> Result<bool, Fault>
-    requires { Walked (log_at log) to × Sorted (cells_of_mut cells.now) × LentTo table.old }
-    ensures decides { Decides (log_at log.entry) to (fault_or_0 fault) (cells_of_mut cells.now) (number_in result) }
+    requires { Walked (log_at log) to × Sorted (seen_cells cells.now) × LentTo table.old }
+    ensures decides { Decides (log_at log.entry) to (fault_or_0 fault) (seen_cells cells.now) (number_in result) }
     ensures left { IfOk result (λ whole. LeftIn (log_at log.entry) to whole table.new) }
     ensures kept { KeptTable table.old table.new }
 {
@@ -68,7 +68,8 @@ fn rebuild(
     ensures rebuilds { Rebuilds (log_at log.entry) to (fault_or_0 fault) (cells_of_mut cells.old) (number_in result) (cells_of_mut cells.new) }
     ensures kept { Kept cells.old cells.new }
 {
-    let whole = decide(log, to, fault, cells, table)?;
+    let opening = look(cells);
+    let whole = decide(log, to, fault, &opening, table)?;
     write_back(log, to, cells, table, whole);
     Ok(())
 }
@@ -132,7 +133,8 @@ pub fn replay(
     ensures unchanged { OnErr result (cells_of_mut cells.new ≡ cells_of_mut cells.old) }
     ensures kept { Kept cells.old cells.new }
 {
-    check_replay(log, cells, words)?;
+    let opening = look(cells);
+    check_replay(log, &opening, words)?;
     let scan = scan_log(log, words, clock);
     if let Err(fault) = by_table(log, scan, cells) {
         words.fill(0);

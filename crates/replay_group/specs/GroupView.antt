@@ -5,9 +5,10 @@ use Rattle.machine.specs.Ram.{Cells, cells}
 use Rattle.machine.specs.Records.{Record}
 use Rattle.replay_group.specs.declared.group.Sweep.{Sweep}
 use Rattle.std.specs.Borrow.{Bor}
-use Rattle.machine_ram.specs.declared.ram_mut.RamMut.{RamMut}
+use Rattle.replay_table.specs.declared.cells.SeenCells.{SeenCells}
 use Rattle.replay_table.specs.declared.table.Table.{Table as LentTable}
 use Rattle.machine_ram.specs.LentCells.{cells_of_mut}
+use Rattle.replay_table.specs.LentView.{seen_cells}
 use Rattle.replay_scan.specs.Walk.{Log, Walk}
 use Rattle.replay_table.specs.Group.{Right, Stop, Came, no_cells, cells_in, distinct_in}
 use Rattle.replay_table.specs.Table.{Table}
@@ -23,13 +24,13 @@ abbrev pub LentTo : LentTable → Type 0
 LentTo t = Lent t.cells.addresses.now t.cells.values.now t.late.addresses.now t.late.values.now
 
 -- reads are looked at where the opening's cells are given
-abbrev pub looks : Option (Bor RamMut) → Bool
+abbrev pub looks : Option (Bor SeenCells) → Bool
 looks None = false
 looks (Some c) = true
 
-abbrev pub opening_of : Option (Bor RamMut) → Cells
+abbrev pub opening_of : Option (Bor SeenCells) → Cells
 opening_of None = no_cells
-opening_of (Some c) = cells_of_mut c.now
+opening_of (Some c) = seen_cells c.now
 
 -- of the records rs those before the place `end` made the table; where reads are looked at, they are right, and no more are
 pub record Gathered (log : Log) (checking : Bool) (lo hi : ℕ) (c : Cells) (rs : List Record) (end : ℕ) (t l : Cells) : Type 0 where

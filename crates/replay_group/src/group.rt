@@ -12,14 +12,14 @@ ghost use Rattle.replay_table.specs.Group.{inside};
 ghost use Rattle.replay_table.specs.Table.{Paired};
 ghost use Rattle.replay_table.specs.TableView.{Touches};
 ghost use Rattle.machine_ram.specs.LentCells.{cells_of_mut};
-ghost use Rattle.replay_table.specs.LentView.{KeptTable};
+ghost use Rattle.replay_table.specs.LentView.{KeptTable, seen_cells};
 ghost use Rattle.replay_group.specs.GroupView.{LentTo, looks, opening_of, Gathers, Sweeps};
 
 use field::base::P;
 use machine_log::kinds::RecordKind;
 use replay_scan::record::Log;
 use replay_scan::records::Placed;
-use replay_table::cells::{Cells, lacked};
+use replay_table::cells::{SeenCells, lacked, look};
 use replay_table::table::Table;
 
 // A group's addresses: from `low` on and below `high`.
@@ -61,7 +61,7 @@ fn is_wrong(
     at: usize,
     kind: RecordKind,
     group: Span,
-    opening: Option<&Cells<'_>>,
+    opening: Option<&SeenCells<'_>>,
     table: &mut Table<'_>,
 ) -> bool
     requires { (at + length_of log.revision (kind_number kind) + 2 ≤ length log.bytes.now) × Sorted (opening_of opening) × Paired (cells_of_mut table.old.cells) (cells_of_mut table.old.late) × (table.old.late.count < length table.old.late.addresses.now) }
@@ -92,7 +92,7 @@ fn pass_log(
     log: Log<'_>,
     to: usize,
     low: u64,
-    opening: Option<&Cells<'_>>,
+    opening: Option<&SeenCells<'_>>,
     table: &mut Table<'_>,
 ) -> Group
     requires { Walked (log_at log) to × (low < p) × Sorted (opening_of opening) × LentTo table.old }
@@ -118,7 +118,7 @@ pub fn group_from(
     log: Log<'_>,
     to: usize,
     low: u64,
-    opening: Option<&Cells<'_>>,
+    opening: Option<&SeenCells<'_>>,
     table: &mut Table<'_>,
 ) -> Group
     requires { Walked (log_at log) to × (low < p) × Sorted (opening_of opening) × LentTo table.old }
@@ -132,9 +132,9 @@ pub fn group_from(
 
 // All addresses, group by group: where the next one begins is known behind the one before. A `while`, since each lends the table, which an
 // iterator of groups would keep. A wrong read ends what the later groups pass over.
-pub fn sweep_all(log: Log<'_>, to: usize, opening: &Cells<'_>, table: &mut Table<'_>) -> Sweep
-    requires { Walked (log_at log) to × Sorted (cells_of_mut opening.now) × LentTo table.old }
-    ensures sweeps { Sweeps (log_at log.entry) to (cells_of_mut opening.now) table.new result }
+pub fn sweep_all(log: Log<'_>, to: usize, opening: &SeenCells<'_>, table: &mut Table<'_>) -> Sweep
+    requires { Walked (log_at log) to × Sorted (seen_cells opening.now) × LentTo table.old }
+    ensures sweeps { Sweeps (log_at log.entry) to (seen_cells opening.now) table.new result }
     ensures kept { KeptTable table.old table.new }
 {
     let mut end = to;
@@ -143,7 +143,8 @@ pub fn sweep_all(log: Log<'_>, to: usize, opening: &Cells<'_>, table: &mut Table
     let mut low = 0;
     while low < P {
         let group = group_from(log, end, low, Some(opening), table);
-        cells += lacked(opening, &table.cells);
+        let written = look(&table.cells);
+        cells += lacked(opening, &written);
         end = group.end;
         groups += 1;
         low = group.high;

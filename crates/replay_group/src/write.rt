@@ -2,7 +2,7 @@
 ghost use Rattle.std.specs.Prelude.{◌/◌, length};
 ghost use Rattle.replay_scan.specs.RecordView.{log_at};
 ghost use Rattle.machine_ram.specs.LentCells.{cells_of_mut};
-ghost use Rattle.replay_table.specs.LentView.{Kept, KeptTable};
+ghost use Rattle.replay_table.specs.LentView.{Kept, KeptTable, seen_cells};
 ghost use Rattle.replay_group.specs.GroupView.{LentTo};
 ghost use Rattle.replay_group.specs.WriteView.{Fits, Brings, Fitting, Written, Few};
 ghost use Rattle.replay_group.specs.Decided.{LeftIn};
@@ -10,16 +10,17 @@ ghost use Rattle.replay_group.specs.Decided.{LeftIn};
 use crate::group::group_from;
 use field::base::P;
 use replay_scan::record::Log;
-use replay_table::cells::{Cells, lacked, merge};
+use replay_table::cells::{Cells, SeenCells, lacked, look, merge};
 use replay_table::table::Table;
 
 // A table's cells.
-fn bring(cells: &mut Cells<'_>, from: &Cells<'_>)
-    requires { Fits (cells_of_mut cells.old) (cells_of_mut from.now) }
-    ensures brings { Brings (cells_of_mut cells.old) (cells_of_mut from.now) (cells_of_mut cells.new) }
+fn bring(cells: &mut Cells<'_>, from: &SeenCells<'_>)
+    requires { Fits (cells_of_mut cells.old) (seen_cells from.now) }
+    ensures brings { Brings (cells_of_mut cells.old) (seen_cells from.now) (cells_of_mut cells.new) }
     ensures kept { Kept cells.old cells.new }
 {
-    let total = cells.count + lacked(cells, from);
+    let own = look(cells);
+    let total = own.count + lacked(&own, from);
     merge(cells, from, total);
 }
 
@@ -36,7 +37,8 @@ fn write_groups(log: Log<'_>, to: usize, cells: &mut Cells<'_>, table: &mut Tabl
     while low < P {
         groups += 1;
         let group = group_from(log, to, low, None, table);
-        bring(cells, &table.cells);
+        let written = look(&table.cells);
+        bring(cells, &written);
         low = group.high;
     }
     groups
@@ -56,7 +58,8 @@ pub fn write_back(
     ensures kept_table { KeptTable table.old table.new }
 {
     if whole {
-        bring(cells, &table.cells);
+        let written = look(&table.cells);
+        bring(cells, &written);
         return;
     }
     let _groups = write_groups(log, to, cells, table);

@@ -15,7 +15,7 @@ unfolding number_of
 number_append [] t = omega arith
 number_append (x ∷ s) t = rw (number_append s t, pow-succ') (omega arith)
 
-number_two : (s : List ℕ) (at : ℕ) → at + 2 ≤ length s → get_or s at 0 + 256 * get_or s (at + 1) 0 ≡ number_at s at 2
+pub number_two : (s : List ℕ) (at : ℕ) → at + 2 ≤ length s → get_or s at 0 + 256 * get_or s (at + 1) 0 ≡ number_at s at 2
 unfolding number_at number_of
 number_two s at h =
     let x : at < length s = omega arith in
@@ -29,7 +29,7 @@ join n m s at h =
     let l : n ≤ length (drop at s) = rw (length-drop at s) (omega arith) in
     rw (take-add n m (drop at s), number_append (take n (drop at s)) (take m (drop n (drop at s))), length-take-le n (drop at s) l, drop-drop n at s)
 
-number_four : (s : List ℕ) (at : ℕ) → at + 2 ≤ length s → number_at s at 2 + 65536 * number_at s (at + 2) 2 ≡ number_at s at 4
+pub number_four : (s : List ℕ) (at : ℕ) → at + 2 ≤ length s → number_at s at 2 + 65536 * number_at s (at + 2) 2 ≡ number_at s at 4
 number_four s at h = sym (join 2 2 s at h)
 
 -- of bytes as std joins them

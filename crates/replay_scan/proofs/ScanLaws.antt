@@ -89,7 +89,7 @@ module _ (s : List ℕ) (depth : ℕ) (f : Fields) (over : ℕ) where
       go l c zero h q = absurd (h refl)
       go l c (suc d) h q = rw q
 
-  write-room : (n : ℕ) → (f.dir ≡ 0 → ⊥) → f.place ≡ depth → over ≡ 0 → n ≡ above_of (depth - 15) (length s) 44 → StackFault s depth f over n
+  pub write-room : (n : ℕ) → (f.dir ≡ 0 → ⊥) → f.place ≡ depth → over ≡ 0 → n ≡ above_of (depth - 15) (length s) 44 → StackFault s depth f over n
   write-room n h k z e = write_fault n h (e ∙ sym (first_zero _ _ (differ_not f.place depth 42 k) ∙ first_zero over _ z))
 
   pub write-elsewhere : (f.dir ≡ 0 → ⊥) → (f.place ≡ depth → ⊥) → StackFault s depth f over 42

@@ -1,7 +1,12 @@
--- What calls leave of lent cells.
+-- Cells that are lent to be looked at, and what calls leave of lent cells.
 use Rattle.std.specs.Prelude.{◌≡◌, length}
+use Rattle.machine.specs.Ram.{Cells, cells}
 use Rattle.machine_ram.specs.declared.ram_mut.RamMut.{RamMut}
+use Rattle.replay_table.specs.declared.cells.SeenCells.{SeenCells}
 use Rattle.replay_table.specs.declared.table.Table.{Table as LentTable}
+
+abbrev pub seen_cells : SeenCells → Cells
+seen_cells r = cells r.count r.addresses.now r.values.now
 
 -- the same two slices, as long as before
 pub record Kept (b c : RamMut) : Type 0 where

@@ -1,18 +1,66 @@
 // Cells brought into others.
 ghost use Rattle.std.specs.Prelude.{◌≡◌, ◌≤◌, length};
+ghost use Rattle.machine.specs.Ram.{held};
 ghost use Rattle.machine_ram.specs.LentCells.{cells_of_mut};
-ghost use Rattle.machine_ram.specs.RamView.{Ordered};
+ghost use Rattle.machine_ram.specs.RamView.{Ordered, Usable, Looked};
 ghost use Rattle.replay_table.specs.Merge.{Merging, Merged, LacksOne, Lacked};
-ghost use Rattle.replay_table.specs.LentView.{Kept};
+ghost use Rattle.replay_table.specs.LentView.{Kept, seen_cells};
 
 use crate::merge::merge_slices;
+use machine_ram::addresses::Addresses;
+use machine_ram::ram::Ram;
 use machine_ram::ram_mut::RamMut;
 
 // RAM's cells, or a table's.
 pub type Cells<'a> = RamMut<'a>;
 
+// The same, to be looked at only. What they must be stands in clauses, as with a table: place A looks at any.
+#[derive(Clone, Copy)]
+pub struct SeenCells<'a> {
+    pub addresses: &'a [u64],
+    pub values: &'a [u64],
+    pub count: usize,
+}
+
+pub fn look<'a>(cells: &'a Cells<'_>) -> SeenCells<'a>
+    ensures addresses { result.addresses.now ≡ cells.now.addresses.now }
+    ensures values { result.values.now ≡ cells.now.values.now }
+    ensures count { result.count ≡ cells.now.count }
+{
+    SeenCells {
+        addresses: &*cells.addresses,
+        values: &*cells.values,
+        count: cells.count,
+    }
+}
+
+impl SeenCells<'_> {
+    pub(crate) fn find(&self, address: u64) -> Result<usize, usize>
+        requires { Ordered self.now.addresses.now self.now.count }
+        ensures { Looked self.now.addresses.now self.now.count address result }
+    {
+        let places = Addresses {
+            words: self.addresses,
+            count: self.count,
+        };
+        places.find(address)
+    }
+
+    pub(crate) fn read(&self, address: u64) -> u64
+        requires { Usable (seen_cells self.now) }
+        ensures { result ≡ held (seen_cells self.now) address }
+    {
+        let ram = Ram {
+            addresses: self.addresses,
+            values: self.values,
+            count: self.count,
+        };
+        ram.read(address)
+    }
+}
+
 // 1 where an address has no cell.
-fn lacks(cells: &Cells<'_>, address: u64) -> usize
+fn lacks(cells: &SeenCells<'_>, address: u64) -> usize
     requires { Ordered cells.now.addresses.now cells.now.count }
     ensures { LacksOne cells.now.addresses.now cells.now.count address result }
 {
@@ -23,7 +71,7 @@ fn lacks(cells: &Cells<'_>, address: u64) -> usize
 }
 
 // How many of other cells have an address that these lack.
-pub fn lacked(cells: &Cells<'_>, from: &Cells<'_>) -> usize
+pub fn lacked(cells: &SeenCells<'_>, from: &SeenCells<'_>) -> usize
     requires ordered { Ordered cells.now.addresses.now cells.now.count }
     requires within { from.now.count ≤ length from.now.addresses.now }
     ensures { Lacked cells.now.addresses.now cells.now.count from.now.addresses.now from.now.count result }
@@ -36,9 +84,9 @@ pub fn lacked(cells: &Cells<'_>, from: &Cells<'_>) -> usize
 }
 
 // Brings others into these, which are `total` then.
-pub fn merge(cells: &mut Cells<'_>, from: &Cells<'_>, total: usize)
-    requires { Merging (cells_of_mut cells.old) (cells_of_mut from.now) total }
-    ensures merged { Merged (cells_of_mut cells.old) (cells_of_mut from.now) (cells_of_mut cells.new) }
+pub fn merge(cells: &mut Cells<'_>, from: &SeenCells<'_>, total: usize)
+    requires { Merging (cells_of_mut cells.old) (seen_cells from.now) total }
+    ensures merged { Merged (cells_of_mut cells.old) (seen_cells from.now) (cells_of_mut cells.new) }
     ensures count { cells.new.count ≡ total }
     ensures kept { Kept cells.old cells.new }
 {

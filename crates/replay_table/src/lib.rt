@@ -2,5 +2,5 @@
 #![tactic(auto)]
 
 pub mod cells;
-mod merge;
+pub mod merge;
 pub mod table;

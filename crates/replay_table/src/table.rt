@@ -5,10 +5,10 @@ ghost use Rattle.machine.specs.Ram.{has, held};
 ghost use Rattle.replay_table.specs.Merge.{Sorted, Merged};
 ghost use Rattle.replay_table.specs.Table.{seen, Paired, Puts, Makes};
 ghost use Rattle.replay_table.specs.TableView.{Waits};
-ghost use Rattle.replay_table.specs.LentView.{KeptTable, Alike};
+ghost use Rattle.replay_table.specs.LentView.{KeptTable, Alike, seen_cells};
 ghost use Rattle.machine_ram.specs.LentCells.{cells_of_mut};
 
-use crate::cells::{Cells, merge};
+use crate::cells::{Cells, SeenCells, look, merge};
 
 // Most cells stand in the table's own; the latest in a few beside, where a new cell moves few, and which are merged into the others. What its
 // slices must be stands in clauses and not in ghost fields, which would ask the room of a group at each call, and have to hold within a merge.
@@ -33,9 +33,9 @@ impl Table<'_> {
     // ---- a word
 
     // A late cell's, else the opening's.
-    fn late_word(&self, opening: &Cells<'_>, address: u64) -> u64
-        requires { Sorted (cells_of_mut self.now.late) × Sorted (cells_of_mut opening.now) }
-        ensures { result ≡ cond (has (cells_of_mut self.now.late) address) (held (cells_of_mut self.now.late) address) (held (cells_of_mut opening.now) address) }
+    fn late_word(&self, opening: &SeenCells<'_>, address: u64) -> u64
+        requires { Sorted (cells_of_mut self.now.late) × Sorted (seen_cells opening.now) }
+        ensures { result ≡ cond (has (cells_of_mut self.now.late) address) (held (cells_of_mut self.now.late) address) (held (seen_cells opening.now) address) }
     {
         match self.late.find(address) {
             Ok(i) => self.late.values[i],
@@ -44,9 +44,9 @@ impl Table<'_> {
     }
 
     // The table's, else a late cell's, else the opening's.
-    pub fn word_at(&self, opening: &Cells<'_>, address: u64) -> u64
-        requires { Paired (cells_of_mut self.now.cells) (cells_of_mut self.now.late) × Sorted (cells_of_mut opening.now) }
-        ensures { result ≡ seen (cells_of_mut self.now.cells) (cells_of_mut self.now.late) address (held (cells_of_mut opening.now) address) }
+    pub fn word_at(&self, opening: &SeenCells<'_>, address: u64) -> u64
+        requires { Paired (cells_of_mut self.now.cells) (cells_of_mut self.now.late) × Sorted (seen_cells opening.now) }
+        ensures { result ≡ seen (cells_of_mut self.now.cells) (cells_of_mut self.now.late) address (held (seen_cells opening.now) address) }
     {
         match self.cells.find(address) {
             Ok(i) => self.cells.values[i],
@@ -103,7 +103,8 @@ impl Table<'_> {
         let most = self.cells.addresses.len();
         let total = self.cells.count + self.late.count;
         prove!(total <= most);
-        merge(&mut self.cells, &self.late, total);
+        let late = look(&self.late);
+        merge(&mut self.cells, &late, total);
         self.late.count = 0;
     }
 

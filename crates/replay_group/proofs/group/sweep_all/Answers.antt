@@ -23,7 +23,8 @@ lacked-cells-requires c =
     let r = c.requires in
     let g = c.loop-low.invariant.grouping r.0.records r.0.walk in
     let d = c.group_from-group.ensures.gathers.gathered g.sweeping.done g.sweeping.walk in
-    record { ordered = r.1.usable.ordered; within = d.table.cells.table.usable.ordered.within }
+    let s = c.look-written.ensures in
+    record { ordered = r.1.usable.ordered; within = rw (s.addresses, s.count) d.table.cells.table.usable.ordered.within }
 
 pub loop-low-smaller : goal.loop-low-smaller
 loop-low-smaller c =
@@ -35,6 +36,8 @@ loop-low-preserved c =
     let l = c.loop-low.invariant in
     let d = c.group_from-group.ensures.gathers in
     let k = table_on l.kept c.group_from-group.ensures.kept in
+    let s = c.look-written.ensures in
+    let m = rw (s.addresses, s.count) at c.lacked-cells.ensures in
     record {
       below = d.below;
       within = omega (arith, d.within, l.within);
@@ -42,7 +45,7 @@ loop-low-preserved c =
       grouping =
           λ rs w.
           let g = l.grouping rs w in
-          grouping-more _ w g d.above (d.gathered g.sweeping.done g.sweeping.walk) (c.lacked-cells.ensures.is _ _) l.within d.within c.loop-low-test.true d.below (λ z. omega (arith, d.half z, k.cells.room));
+          grouping-more _ w g d.above (d.gathered g.sweeping.done g.sweeping.walk) (m.is _ _) l.within d.within c.loop-low-test.true d.below (λ z. omega (arith, d.half z, k.cells.room));
     }
 
 pub returns-clause-sweeps : goal.returns-clause-sweeps
@@ -61,7 +64,9 @@ overflow_add-cells c =
     let l = c.loop-low.invariant in
     let g = l.grouping r.0.records r.0.walk in
     let d = c.group_from-group.ensures.gathers in
-    omega (arith, grouping-fits _ r.0.walk g d.above (d.gathered g.sweeping.done g.sweeping.walk) (c.lacked-cells.ensures.is _ _), walked-ends r.0, c.ranges)
+    let s = c.look-written.ensures in
+    let m = rw (s.addresses, s.count) at c.lacked-cells.ensures in
+    omega (arith, grouping-fits _ r.0.walk g d.above (d.gathered g.sweeping.done g.sweeping.walk) (m.is _ _), walked-ends r.0, c.ranges)
 
 pub overflow_add-groups : goal.overflow_add-groups
 overflow_add-groups c =
@@ -69,4 +74,6 @@ overflow_add-groups c =
     let l = c.loop-low.invariant in
     let g = l.grouping r.0.records r.0.walk in
     let d = c.group_from-group.ensures.gathers in
-    omega (arith, grouping-few _ r.0.walk g d.above (d.gathered g.sweeping.done g.sweeping.walk) (c.lacked-cells.ensures.is _ _) (omega (arith, r.2.two)) c.loop-low-test.true, walked-ends r.0, c.ranges, c.well_formed)
+    let s = c.look-written.ensures in
+    let m = rw (s.addresses, s.count) at c.lacked-cells.ensures in
+    omega (arith, grouping-few _ r.0.walk g d.above (d.gathered g.sweeping.done g.sweeping.walk) (m.is _ _) (omega (arith, r.2.two)) c.loop-low-test.true, walked-ends r.0, c.ranges, c.well_formed)

@@ -6,7 +6,7 @@ use Rattle.machine.specs.Records.{Record}
 use Rattle.replay_scan.specs.RecordView.{log_at}
 use Rattle.replay_scan.specs.Walk.{Walk}
 use Rattle.machine_ram.specs.LentCells.{cells_of_mut}
-use Rattle.replay_table.specs.LentView.{KeptTable}
+use Rattle.replay_table.specs.LentView.{KeptTable, seen_cells}
 use Rattle.replay_group.proofs.SweepLaws.{Grouping}
 use Rattle.replay_group.proofs.group.sweep_all.Given as goal
 
@@ -18,7 +18,7 @@ invariant-loop-low l =
       kept : KeptTable l.initial.table l.table;
       grouping :
           (rs : List Record) → Walk (log_at l.log) 0 l.to rs →
-          Grouping (log_at l.log) l.to l.low (cells_of_mut l.opening) rs l.end l.cells (length l.initial.table.cells.addresses.now / 2) l.groups (cells_of_mut l.table.cells) l.table.late.addresses.now l.table.late.values.now;
+          Grouping (log_at l.log) l.to l.low (seen_cells l.opening) rs l.end l.cells (length l.initial.table.cells.addresses.now / 2) l.groups (cells_of_mut l.table.cells) l.table.late.addresses.now l.table.late.values.now;
     }
 
 abbrev pub decreases-loop-low : goal.decreases-loop-low

@@ -22,7 +22,8 @@ bring-requires c =
     let r = c.requires in
     let l = c.loop-low.invariant in
     let d = c.group_from-group.ensures.gathers in
-    writing-fits (l.writing r.0.records r.0.walk) d.above (gathered-all (d.gathered r.0.records r.0.walk)) r.0.room d.below
+    let k = c.look-written.ensures in
+    rw (k.addresses, k.values, k.count) (writing-fits (l.writing r.0.records r.0.walk) d.above (gathered-all (d.gathered r.0.records r.0.walk)) r.0.room d.below)
 
 pub loop-low-smaller : goal.loop-low-smaller
 loop-low-smaller c =
@@ -35,6 +36,8 @@ loop-low-preserved c =
     let l = c.loop-low.invariant in
     let d = c.group_from-group.ensures.gathers in
     let k = table_on l.kept_table c.group_from-group.ensures.kept in
+    let s = c.look-written.ensures in
+    let b = rw (s.addresses, s.values, s.count) at c.bring.ensures.brings in
     record {
       below = d.below;
       kept = kept_on l.kept c.bring.ensures.kept;
@@ -43,7 +46,7 @@ loop-low-preserved c =
           λ rs w.
           let g = l.writing rs w in
           let t = gathered-all (d.gathered rs w) in
-          writing_more g d.above d.below c.loop-low-test.true t c.bring.ensures.brings (writing-fits g d.above t (writing-room r.0 w) d.below) (λ z. omega (arith, d.half z, k.cells.room));
+          writing_more g d.above d.below c.loop-low-test.true t b (writing-fits g d.above t (writing-room r.0 w) d.below) (λ z. omega (arith, d.half z, k.cells.room));
     }
 
 pub returns-clause-written : goal.returns-clause-written
