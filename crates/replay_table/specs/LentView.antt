@@ -8,6 +8,12 @@ use Rattle.replay_table.specs.declared.table.Table.{Table as LentTable}
 abbrev pub seen_cells : SeenCells → Cells
 seen_cells r = cells r.count r.addresses.now r.values.now
 
+-- what is looked at is what is lent
+pub record Shows (b : RamMut) (c : SeenCells) : Type 0 where
+  pub addresses : c.addresses.now ≡ b.addresses.now
+  pub values : c.values.now ≡ b.values.now
+  pub count : c.count ≡ b.count
+
 -- the same two slices, as long as before
 pub record Kept (b c : RamMut) : Type 0 where
   pub addresses : c.addresses.ghost_name ≡ b.addresses.ghost_name

@@ -4,7 +4,7 @@ ghost use Rattle.machine.specs.Ram.{held};
 ghost use Rattle.machine_ram.specs.LentCells.{cells_of_mut};
 ghost use Rattle.machine_ram.specs.RamView.{Ordered, Usable, Looked};
 ghost use Rattle.replay_table.specs.Merge.{Merging, Merged, LacksOne, Lacked};
-ghost use Rattle.replay_table.specs.LentView.{Kept, seen_cells};
+ghost use Rattle.replay_table.specs.LentView.{Kept, Shows, seen_cells};
 
 use crate::merge::merge_slices;
 use machine_ram::addresses::Addresses;
@@ -23,9 +23,7 @@ pub struct SeenCells<'a> {
 }
 
 pub fn look<'a>(cells: &'a Cells<'_>) -> SeenCells<'a>
-    ensures addresses { result.addresses.now ≡ cells.now.addresses.now }
-    ensures values { result.values.now ≡ cells.now.values.now }
-    ensures count { result.count ≡ cells.now.count }
+    ensures { Shows cells.now result }
 {
     SeenCells {
         addresses: &*cells.addresses,

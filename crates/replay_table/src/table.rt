@@ -5,7 +5,7 @@ ghost use Rattle.machine.specs.Ram.{has, held};
 ghost use Rattle.replay_table.specs.Merge.{Sorted, Merged};
 ghost use Rattle.replay_table.specs.Table.{seen, Paired, Puts, Makes};
 ghost use Rattle.replay_table.specs.TableView.{Waits};
-ghost use Rattle.replay_table.specs.LentView.{KeptTable, Alike, seen_cells};
+ghost use Rattle.replay_table.specs.LentView.{Kept, KeptTable, Alike, Shows, seen_cells};
 ghost use Rattle.machine_ram.specs.LentCells.{cells_of_mut};
 
 use crate::cells::{Cells, SeenCells, look, merge};
@@ -17,6 +17,112 @@ pub struct Table<'a> {
     pub cells: Cells<'a>,
     pub late: Cells<'a>,
 }
+
+// The same, to be looked at only.
+#[derive(Clone, Copy)]
+pub struct SeenTable<'a> {
+    pub cells: SeenCells<'a>,
+    pub late: SeenCells<'a>,
+}
+
+// ---- a word
+
+impl SeenTable<'_> {
+    // A late cell's, else the opening's.
+    fn late_word(&self, opening: &SeenCells<'_>, address: u64) -> u64
+        requires { Sorted (seen_cells self.now.late) × Sorted (seen_cells opening.now) }
+        ensures { result ≡ cond (has (seen_cells self.now.late) address) (held (seen_cells self.now.late) address) (held (seen_cells opening.now) address) }
+    {
+        match self.late.find(address) {
+            Ok(i) => self.late.values[i],
+            Err(_) => opening.read(address),
+        }
+    }
+
+    // The table's, else a late cell's, else the opening's.
+    pub fn word_at(&self, opening: &SeenCells<'_>, address: u64) -> u64
+        requires { Paired (seen_cells self.now.cells) (seen_cells self.now.late) × Sorted (seen_cells opening.now) }
+        ensures { result ≡ seen (seen_cells self.now.cells) (seen_cells self.now.late) address (held (seen_cells opening.now) address) }
+    {
+        match self.cells.find(address) {
+            Ok(i) => self.cells.values[i],
+            Err(_) => self.late_word(opening, address),
+        }
+    }
+}
+
+// ---- room
+
+// What came of making room: how many cells are late then, and where the group ends.
+#[derive(Clone, Copy)]
+pub struct Made {
+    pub late: usize,
+    pub high: u64,
+}
+
+// Whether there is room for a late cell. The late ones are merged when they are many beside the table's, so that most
+// addresses are found at the first look; any bound is right.
+fn waits(cells: &Cells<'_>, late: &SeenCells<'_>) -> bool
+    requires { Paired (cells_of_mut cells.now) (seen_cells late.now) }
+    ensures { Waits cells.now.count late.now.count (length cells.now.addresses.now) (length late.now.addresses.now) result }
+{
+    let used = cells.count;
+    if late.addresses.len() <= late.count {
+        return false;
+    }
+    if cells.addresses.len() - used <= late.count {
+        return false;
+    }
+    late.count <= used / 32 + 16
+}
+
+// The late cells merged into a table's own.
+pub fn settle(cells: &mut Cells<'_>, late: &SeenCells<'_>)
+    requires { Paired (cells_of_mut cells.old) (seen_cells late.now) }
+    ensures merged { Merged (cells_of_mut cells.old) (seen_cells late.now) (cells_of_mut cells.new) }
+    ensures count { cells.new.count ≡ cells.old.count + late.now.count }
+    ensures kept { Kept cells.old cells.new }
+{
+    let most = cells.addresses.len();
+    let total = cells.count + late.count;
+    prove!(total <= most);
+    merge(cells, late, total);
+}
+
+// Room by merging; where the table is full then, only its lower half is kept, and the group ends before the rest.
+fn make_more(cells: &mut Cells<'_>, late: &SeenCells<'_>, hi: u64) -> Made
+    requires { Paired (cells_of_mut cells.old) (seen_cells late.now) × (0 < length cells.old.addresses.now) × Waits cells.old.count late.now.count (length cells.old.addresses.now) (length late.now.addresses.now) False }
+    ensures makes { Makes (cells_of_mut cells.old) (seen_cells late.now) hi (cells_of_mut cells.new) result.late result.high }
+    ensures kept { Kept cells.old cells.new }
+{
+    settle(cells, late);
+    if cells.count < cells.addresses.len() {
+        return Made { late: 0, high: hi };
+    }
+    let half = cells.addresses.len() / 2;
+    cells.count = half;
+    Made {
+        late: 0,
+        high: cells.addresses[half],
+    }
+}
+
+// Room for one late cell more, and for all of them in the table.
+pub fn make_room(cells: &mut Cells<'_>, late: &SeenCells<'_>, hi: u64) -> Made
+    requires { Paired (cells_of_mut cells.old) (seen_cells late.now) × (0 < length cells.old.addresses.now) }
+    ensures makes { Makes (cells_of_mut cells.old) (seen_cells late.now) hi (cells_of_mut cells.new) result.late result.high }
+    ensures kept { Kept cells.old cells.new }
+{
+    if waits(cells, late) {
+        return Made {
+            late: late.count,
+            high: hi,
+        };
+    }
+    make_more(cells, late, hi)
+}
+
+// ---- all of a table
 
 impl Table<'_> {
     // No cells.
@@ -30,31 +136,22 @@ impl Table<'_> {
         self.late.count = 0;
     }
 
-    // ---- a word
-
-    // A late cell's, else the opening's.
-    fn late_word(&self, opening: &SeenCells<'_>, address: u64) -> u64
-        requires { Sorted (cells_of_mut self.now.late) × Sorted (seen_cells opening.now) }
-        ensures { result ≡ cond (has (cells_of_mut self.now.late) address) (held (cells_of_mut self.now.late) address) (held (seen_cells opening.now) address) }
+    pub fn look(&self) -> SeenTable<'_>
+        ensures cells { Shows self.now.cells result.cells }
+        ensures late { Shows self.now.late result.late }
     {
-        match self.late.find(address) {
-            Ok(i) => self.late.values[i],
-            Err(_) => opening.read(address),
+        SeenTable {
+            cells: look(&self.cells),
+            late: look(&self.late),
         }
     }
 
-    // The table's, else a late cell's, else the opening's.
     pub fn word_at(&self, opening: &SeenCells<'_>, address: u64) -> u64
         requires { Paired (cells_of_mut self.now.cells) (cells_of_mut self.now.late) × Sorted (seen_cells opening.now) }
         ensures { result ≡ seen (cells_of_mut self.now.cells) (cells_of_mut self.now.late) address (held (seen_cells opening.now) address) }
     {
-        match self.cells.find(address) {
-            Ok(i) => self.cells.values[i],
-            Err(_) => self.late_word(opening, address),
-        }
+        self.look().word_at(opening, address)
     }
-
-    // ---- a write
 
     pub fn put(&mut self, address: u64, value: u64)
         requires { Paired (cells_of_mut self.old.cells) (cells_of_mut self.old.late) × (self.old.late.count < length self.old.late.addresses.now) }
@@ -72,26 +169,7 @@ impl Table<'_> {
         }
     }
 
-    // ---- room
-
-    // Whether there is room for a late cell. The late ones are merged when they are many beside the table's, so that most
-    // addresses are found at the first look; any bound is right.
-    fn waits(&self) -> bool
-        requires { Paired (cells_of_mut self.now.cells) (cells_of_mut self.now.late) }
-        ensures { Waits self.now.cells.count self.now.late.count (length self.now.cells.addresses.now) (length self.now.late.addresses.now) result }
-    {
-        let used = self.cells.count;
-        let late = self.late.count;
-        if self.late.addresses.len() <= late {
-            return false;
-        }
-        if self.cells.addresses.len() - used <= late {
-            return false;
-        }
-        late <= used / 32 + 16
-    }
-
-    // The late cells merged into the table.
+    // Leaves no late cell.
     pub fn settle(&mut self)
         requires { Paired (cells_of_mut self.old.cells) (cells_of_mut self.old.late) }
         ensures merged { Merged (cells_of_mut self.old.cells) (cells_of_mut self.old.late) (cells_of_mut self.new.cells) }
@@ -100,40 +178,21 @@ impl Table<'_> {
         ensures alike { Alike self.old.late self.new.late }
         ensures kept { KeptTable self.old self.new }
     {
-        let most = self.cells.addresses.len();
-        let total = self.cells.count + self.late.count;
-        prove!(total <= most);
         let late = look(&self.late);
-        merge(&mut self.cells, &late, total);
+        settle(&mut self.cells, &late);
         self.late.count = 0;
     }
 
-    // Room by merging; where the table is full then, only its lower half is kept, and the group ends before the rest. Gives where it ends.
-    fn make_more(&mut self, hi: u64) -> u64
-        requires { Paired (cells_of_mut self.old.cells) (cells_of_mut self.old.late) × (0 < length self.old.cells.addresses.now) × Waits self.old.cells.count self.old.late.count (length self.old.cells.addresses.now) (length self.old.late.addresses.now) False }
-        ensures makes { Makes (cells_of_mut self.old.cells) (cells_of_mut self.old.late) hi (cells_of_mut self.new.cells) self.new.late.count result }
-        ensures alike { Alike self.old.late self.new.late }
-        ensures kept { KeptTable self.old self.new }
-    {
-        self.settle();
-        if self.cells.count < self.cells.addresses.len() {
-            return hi;
-        }
-        let half = self.cells.addresses.len() / 2;
-        self.cells.count = half;
-        self.cells.addresses[half]
-    }
-
-    // Room for one late cell more, and for all of them in the table; gives where the group ends.
+    // Gives where the group ends.
     pub fn make_room(&mut self, hi: u64) -> u64
         requires { Paired (cells_of_mut self.old.cells) (cells_of_mut self.old.late) × (0 < length self.old.cells.addresses.now) }
         ensures makes { Makes (cells_of_mut self.old.cells) (cells_of_mut self.old.late) hi (cells_of_mut self.new.cells) self.new.late.count result }
         ensures alike { Alike self.old.late self.new.late }
         ensures kept { KeptTable self.old self.new }
     {
-        if self.waits() {
-            return hi;
-        }
-        self.make_more(hi)
+        let late = look(&self.late);
+        let made = make_room(&mut self.cells, &late, hi);
+        self.late.count = made.late;
+        made.high
     }
 }
