@@ -1,7 +1,7 @@
 // A group's table: the cells that the log's records wrote to.
 ghost use Rattle.std.specs.Prelude.{◌≡◌, false as False, ◌+◌, ◌<◌, length};
 ghost use Rattle.choices.specs.Choice.{cond};
-ghost use Rattle.machine.specs.Ram.{has, held};
+ghost use Rattle.machine.specs.Ram.{cells as cells_of, has, held};
 ghost use Rattle.replay_table.specs.Merge.{Sorted, Merged};
 ghost use Rattle.replay_table.specs.Table.{seen, Paired, Puts, Makes};
 ghost use Rattle.replay_table.specs.TableView.{Waits};
@@ -9,6 +9,7 @@ ghost use Rattle.replay_table.specs.LentView.{Kept, KeptTable, Alike, Shows, see
 ghost use Rattle.machine_ram.specs.LentCells.{cells_of_mut};
 
 use crate::cells::{Cells, SeenCells, look, merge};
+use machine_ram::addresses::Addresses;
 
 // Most cells stand in the table's own; the latest in a few beside, where a new cell moves few, and which are merged into the others. What its
 // slices must be stands in clauses and not in ghost fields, which would ask the room of a group at each call, and have to hold within a merge.
@@ -47,6 +48,36 @@ impl SeenTable<'_> {
         match self.cells.find(address) {
             Ok(i) => self.cells.values[i],
             Err(_) => self.late_word(opening, address),
+        }
+    }
+}
+
+// ---- a write
+
+// Of a table's own cells only the words may change. Table's `put` doesn't call it, since it would lend it one slice of its own cells to change and
+// one to look at.
+pub fn put(
+    addresses: &[u64],
+    values: &mut [u64],
+    count: usize,
+    late: &mut Cells<'_>,
+    address: u64,
+    value: u64,
+)
+    requires { Paired (cells_of count addresses.now values.old) (cells_of_mut late.old) × (late.old.count < length late.old.addresses.now) }
+    ensures puts { Puts (cells_of count addresses.now values.old) (cells_of_mut late.old) address value (cells_of count addresses.now values.new) (cells_of_mut late.new) }
+    ensures kept { Kept late.old late.new }
+{
+    let places = Addresses {
+        words: addresses,
+        count,
+    };
+    match places.find(address) {
+        Ok(place) => {
+            values[place] = value;
+        }
+        Err(_) => {
+            late.write(address, value);
         }
     }
 }
