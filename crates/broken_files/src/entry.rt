@@ -1,11 +1,12 @@
 // An entry of the list: what it says of a file, and its name.
+ghost use Rattle.std.specs.Prelude.{◌≤◌};
+
 use reading::read_full;
-use std::alloc::Global;
+use std::io;
 use std::io::Read;
-use std::{io, str};
 
 // What reading the file must give. The sums are of the slices, in the order of `Words`.
-#[derive(Drop)]
+#[derive(Clone, Copy)]
 pub struct Entry {
     pub length: u64,
     pub number: u64,
@@ -14,7 +15,8 @@ pub struct Entry {
     pub counts: [u64; 5],
     pub budget: u64,
     pub sums: [u64; 7],
-    pub name: String,
+    // It ends in spaces, and need not be text.
+    pub name: [u8; 48],
 }
 
 // The next number of the list; 0 where the list has ended.
@@ -32,16 +34,14 @@ fn numbers<const N: usize>(list: &mut impl Read) -> io::Result<[u64; N]> {
     Ok(numbers)
 }
 
-// Its 48 bytes end in spaces.
-fn name(alloc: Global, list: &mut impl Read) -> io::Result<String> {
+fn name(list: &mut impl Read) -> io::Result<[u8; 48]> {
     let mut bytes = [0u8; 48];
     read_full(list, &mut bytes)?;
-    let name = str::from_utf8(&bytes).unwrap_or("");
-    Ok(String::from_str(alloc, name)?)
+    Ok(bytes)
 }
 
 impl Entry {
-    pub fn read(alloc: Global, list: &mut impl Read) -> io::Result<Entry> {
+    pub fn read(list: &mut impl Read) -> io::Result<Entry> {
         Ok(Entry {
             length: next(list)?,
             number: next(list)?,
@@ -49,7 +49,14 @@ impl Entry {
             counts: numbers::<5>(list)?,
             budget: next(list)?,
             sums: numbers::<7>(list)?,
-            name: name(alloc, list)?,
+            name: name(list)?,
         })
     }
+}
+
+// How much of a file there is room for.
+pub fn least(length: u64, room: usize) -> usize
+    ensures { result ≤ room }
+{
+    usize::try_from(length).unwrap_or(room).min(room)
 }

@@ -78,8 +78,8 @@ fn read(file: &[u8]) -> Said {
     }
 }
 
-// Prints a line for each difference, and gives back whether there is none.
-pub fn right(rt: &impl Print, i: u64, entry: &Entry, file: &[u8]) -> io::Result<bool> {
+// Prints a line for each difference, and gives back whether there is none. Of the file n bytes are the list's.
+pub fn right(rt: &impl Print, i: u64, entry: &Entry, file: &[u8], n: usize) -> io::Result<bool> {
     let found = read(file);
     let [slots, publics, secrets, digests, cells] = entry.counts;
     let [
@@ -91,9 +91,8 @@ pub fn right(rt: &impl Print, i: u64, entry: &Entry, file: &[u8]) -> io::Result<
         addresses,
         values,
     ] = entry.sums;
-    let name = entry.name.as_str();
     let parts = [
-        ("length of the file", file.len() as u64 == entry.length),
+        ("length of the file", n as u64 == entry.length),
         ("number", found.number == entry.number),
         ("digest", found.digest == entry.digest),
         ("budget", found.budget == entry.budget),
@@ -112,7 +111,9 @@ pub fn right(rt: &impl Print, i: u64, entry: &Entry, file: &[u8]) -> io::Result<
     ];
     for (what, same) in parts {
         if !same {
-            println!(rt; "entry {i}: {what}, {name}")?;
+            print!(rt; "entry {i}: {what}, ")?;
+            rt.write_all(&entry.name)?;
+            println!(rt)?;
         }
     }
     Ok(parts.iter().all(|(_, same)| *same))
