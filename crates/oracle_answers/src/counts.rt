@@ -1,4 +1,6 @@
 // How many words there are of each kind.
+ghost use Rattle.std.specs.Prelude.{◌≤◌};
+
 use crate::reader::Reader;
 
 // Of memory: words of the op stack, jump entries, RAM cells, output words.
@@ -62,7 +64,7 @@ impl Head {
     }
 }
 
-// How many words of each slice are lent, and how many bytes of the call buffer.
+// How many words of each slice an entry says are lent, and how many bytes of the call buffer.
 #[derive(Clone, Copy)]
 pub struct Lengths {
     pub opcodes: usize,
@@ -84,6 +86,20 @@ const WORDS: usize = 64;
 
 pub const CALLS: usize = 1024;
 
+// How many words of a slice are lent where an entry says so many.
+pub fn lent(said: usize) -> usize
+    ensures { result ≤ 64 }
+{
+    said.min(WORDS)
+}
+
+// How many bytes of the call buffer.
+pub fn room(said: usize) -> usize
+    ensures { result ≤ 1024 }
+{
+    said.min(CALLS)
+}
+
 impl Lengths {
     pub fn in_head(head: Head) -> Lengths {
         let lent = head.lent;
@@ -104,20 +120,19 @@ impl Lengths {
     }
 
     pub fn in_words(entry: &mut Reader) -> Lengths {
-        let mut word = |most: usize| (entry.word() as usize).min(most);
         Lengths {
-            opcodes: word(WORDS),
-            arguments: word(WORDS),
-            public: word(WORDS),
-            secret: word(WORDS),
-            digests: word(WORDS),
-            op_stack: word(WORDS),
-            origins: word(WORDS),
-            destinations: word(WORDS),
-            addresses: word(WORDS),
-            values: word(WORDS),
-            output: word(WORDS),
-            calls: word(CALLS),
+            opcodes: entry.word() as usize,
+            arguments: entry.word() as usize,
+            public: entry.word() as usize,
+            secret: entry.word() as usize,
+            digests: entry.word() as usize,
+            op_stack: entry.word() as usize,
+            origins: entry.word() as usize,
+            destinations: entry.word() as usize,
+            addresses: entry.word() as usize,
+            values: entry.word() as usize,
+            output: entry.word() as usize,
+            calls: entry.word() as usize,
         }
     }
 }

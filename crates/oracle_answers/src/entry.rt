@@ -65,7 +65,7 @@ fn said(entry: &mut Reader, form: Form, head: Head, number: u64) -> Besides {
 }
 
 impl Entry {
-    pub fn read(alloc: Global, bytes: &[u8], form: Form) -> Result<Entry, AllocError> {
+    pub fn read(alloc: Global, bytes: &[u8], len: usize, form: Form) -> Result<Entry, AllocError> {
         let mut reader = Reader::new(bytes);
         let entry = &mut reader;
         let head = Head::read(entry);
@@ -91,7 +91,7 @@ impl Entry {
         let besides = said(entry, form, head, answer.number);
         let lengths = besides.lengths;
         let mut calls = entry.bytes(alloc, head.calls)?;
-        let whole = entry.is_at_end();
+        let whole = entry.is_at_end(len);
         code.resize(lengths)?;
         memory.resize(lengths)?;
         memory_after.resize(lengths)?;

@@ -16,6 +16,12 @@ use std::io;
 use std::io::Read;
 use trial::right;
 
+// The next entry stands behind so many bytes, where this one has more.
+const BYTES: usize = 2048;
+
+// The numbers that are counted lie below.
+const NUMBERS: u64 = 64;
+
 // The next n bytes of the lists, and zeros behind their end.
 fn read<const N: usize>(lists: &mut impl Read) -> io::Result<[u8; N]> {
     let mut bytes = [0u8; N];
@@ -29,12 +35,15 @@ fn list<R: Print + AllocGlobal>(rt: &R, lists: &mut impl Read, form: Form) -> io
     let mut tally = BTreeMap::new(rt.alloc());
     let mut differ: u32 = 0;
     for i in 0..count {
-        let len = u16::from_le_bytes(read::<2>(lists)?);
-        let mut bytes = vec![in rt.alloc(); 0u8; usize::from(len)]?;
+        let len = usize::from(u16::from_le_bytes(read::<2>(lists)?));
+        let mut bytes = vec![in rt.alloc(); 0u8; len.min(BYTES)]?;
         read_full(lists, &mut bytes)?;
-        let entry = Entry::read(rt.alloc(), &bytes, form)?;
-        let entries = tally.entry(entry.answer.number)?.or_insert(0u32);
-        *entries = entries.saturating_add(1);
+        let entry = Entry::read(rt.alloc(), &bytes, len, form)?;
+        let number = entry.answer.number;
+        if number < NUMBERS {
+            let entries = tally.entry(number)?.or_insert(0u32);
+            *entries = entries.saturating_add(1);
+        }
         if !right(rt, i, entry)? {
             differ = differ.saturating_add(1);
         }

@@ -1,7 +1,16 @@
 // The slices that a step is lent. Pairs, as opcodes and arguments, are two of them: the machine's calls take them so.
-use crate::counts::{Counts, Head, Lengths};
+ghost use Rattle.std.specs.Prelude.{◌≤◌, length, IfOk};
+
+use crate::counts::{Counts, Head, Lengths, lent};
 use crate::reader::Reader;
 use std::alloc::{AllocError, Global};
+
+// As many words as are lent, with zeros behind those that the entry has.
+fn lend(words: &mut Vec<u64>, said: usize) -> Result<(), AllocError>
+    ensures { IfOk result (λ _. length words.new.items ≤ 64) }
+{
+    words.resize(lent(said), 0)
+}
 
 #[derive(Drop)]
 pub struct Code {
@@ -27,13 +36,12 @@ impl Code {
         })
     }
 
-    // As many words as are lent, with zeros behind those that the entry has.
     pub fn resize(&mut self, lengths: Lengths) -> Result<(), AllocError> {
-        self.opcodes.resize(lengths.opcodes, 0)?;
-        self.arguments.resize(lengths.arguments, 0)?;
-        self.public.resize(lengths.public, 0)?;
-        self.secret.resize(lengths.secret, 0)?;
-        self.digests.resize(lengths.digests, 0)
+        lend(&mut self.opcodes, lengths.opcodes)?;
+        lend(&mut self.arguments, lengths.arguments)?;
+        lend(&mut self.public, lengths.public)?;
+        lend(&mut self.secret, lengths.secret)?;
+        lend(&mut self.digests, lengths.digests)
     }
 }
 
@@ -64,11 +72,11 @@ impl Memory {
     }
 
     pub fn resize(&mut self, lengths: Lengths) -> Result<(), AllocError> {
-        self.op_stack.resize(lengths.op_stack, 0)?;
-        self.origins.resize(lengths.origins, 0)?;
-        self.destinations.resize(lengths.destinations, 0)?;
-        self.addresses.resize(lengths.addresses, 0)?;
-        self.values.resize(lengths.values, 0)?;
-        self.output.resize(lengths.output, 0)
+        lend(&mut self.op_stack, lengths.op_stack)?;
+        lend(&mut self.origins, lengths.origins)?;
+        lend(&mut self.destinations, lengths.destinations)?;
+        lend(&mut self.addresses, lengths.addresses)?;
+        lend(&mut self.values, lengths.values)?;
+        lend(&mut self.output, lengths.output)
     }
 }

@@ -1,16 +1,36 @@
-// An entry's bytes, read from the front. Behind the last one there are zeros.
+// An entry's bytes, read from the front. Behind the last one there are zeros, and so are the words behind the 512th.
+ghost use Rattle.std.specs.Prelude.{◌≤◌};
+
 use std::alloc::{AllocError, Global};
+
+// So many words are read, and those behind them take no bytes.
+const WORDS: usize = 512;
+
+// How far places are counted: nothing stands there.
+const PLACES: usize = 4096;
+
+// A place, or 4,096 where it is more.
+fn place(read: usize) -> usize
+    ensures { result ≤ 4096 }
+{
+    read.min(PLACES)
+}
 
 #[derive(Drop)]
 pub struct Reader<'a> {
     bytes: &'a [u8],
     // How many were read, those behind the last one too.
     read: usize,
+    words: usize,
 }
 
 impl<'a> Reader<'a> {
     pub fn new(bytes: &'a [u8]) -> Reader<'a> {
-        Reader { bytes, read: 0 }
+        Reader {
+            bytes,
+            read: 0,
+            words: 0,
+        }
     }
 
     pub fn byte(&mut self) -> u8 {
@@ -21,6 +41,10 @@ impl<'a> Reader<'a> {
 
     // A word: how many bytes it has, and these bytes.
     pub fn word(&mut self) -> u64 {
+        if WORDS <= self.words {
+            return 0;
+        }
+        self.words += 1;
         let mut word = [0u8; 8];
         for i in 0..usize::from(self.byte()) {
             let byte = self.byte();
@@ -58,8 +82,8 @@ impl<'a> Reader<'a> {
         Ok(bytes)
     }
 
-    // Whether all of the entry was read, and nothing behind it.
-    pub fn is_at_end(&self) -> bool {
-        self.read == self.bytes.len()
+    // Whether as many bytes were read as the entry's list says: of 4,096 it is so where more were read, too.
+    pub fn is_at_end(&self, len: usize) -> bool {
+        place(self.read) == len
     }
 }

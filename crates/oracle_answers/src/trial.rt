@@ -1,5 +1,5 @@
 // One entry: its step is taken, and what comes out is compared.
-use crate::counts::CALLS;
+use crate::counts::{CALLS, room};
 use crate::entry::Entry;
 use crate::memory::{Code, Memory};
 use machine::lent::{LentCode, LentMemory, SeenMemory};
@@ -72,9 +72,9 @@ pub fn right(rt: &impl Print, index: u32, mut e: Entry) -> io::Result<bool> {
         Err(error) => (Refusal::from(error).number, [0u64; 6]),
     };
     let mut calls = [0u8; CALLS];
-    let room = e.room.min(CALLS);
+    let most = room(e.room);
     let job = &mut e;
-    let stepped = stepped(job.before, &job.code, &mut job.memory, &mut calls[..room]);
+    let stepped = stepped(job.before, &job.code, &mut job.memory, &mut calls[..most]);
     let answer = answered(stepped.answer);
     // The sponge is a part of its own.
     let registers = VMState {
