@@ -7,7 +7,7 @@ mod pending;
 mod refusals;
 mod space;
 
-ghost use Rattle.std.specs.Prelude.{IfOk, OnOk, string_bytes};
+ghost use Rattle.std.specs.Prelude.{◌≤◌, IfOk, OnOk, string_bytes, take};
 ghost use Rattle.std.specs.Io.KnownBytes.{Appends};
 ghost use Rattle.job.specs.Printed.{printed_of};
 ghost use Rattle.runjob.specs.SpaceView.{space_code, space_memory};
@@ -26,11 +26,17 @@ use std::io;
 use std::io::Write;
 
 // Of a job that is not opened only the refusal's line is printed.
-fn first(text: &mut String, file: &[u8], space: &mut Space) -> Result<Option<Pending>, AllocError>
-    requires { Blank (space_code space.old) (space_memory space.old) }
-    ensures { IfOk result (λ r. Begins (string_bytes text.old) (string_bytes text.new) (printed_of file.now) r (space_code space.new) (space_memory space.new)) }
+fn first(
+    text: &mut String,
+    file: &[u8; 65537],
+    n: usize,
+    space: &mut Space,
+) -> Result<Option<Pending>, AllocError>
+    requires n_bound { n ≤ 65537 }
+    requires blank { Blank (space_code space.old) (space_memory space.old) }
+    ensures { IfOk result (λ r. Begins (string_bytes text.old) (string_bytes text.new) (printed_of (take n file.now)) r (space_code space.new) (space_memory space.new)) }
 {
-    match start(file, space) {
+    match start(file, n, space) {
         Ok(job) => Ok(Some(job)),
         Err(error) => {
             let nothing = Counts {
@@ -46,12 +52,19 @@ fn first(text: &mut String, file: &[u8], space: &mut Space) -> Result<Option<Pen
 
 // Piece after piece, until no more are to come. A piece's text is written at once: each part of a line to a `BufWriter` took 1.3 times as long.
 // Digits put by hand into a lent buffer were faster for a listing of 15.7 MB (38 ms against 49), and slower for short ones (3.3 against 2.2).
-fn print_job<W: Write>(alloc: Global, out: &mut W, file: &[u8], space: &mut Space) -> io::Result<()>
-    requires { Blank (space_code space.old) (space_memory space.old) }
-    ensures { OnOk result (Appends (W.contents out.old) (W.contents out.new) (printed_of file.now)) }
+fn print_job<W: Write>(
+    alloc: Global,
+    out: &mut W,
+    file: &[u8; 65537],
+    n: usize,
+    space: &mut Space,
+) -> io::Result<()>
+    requires n_bound { n ≤ 65537 }
+    requires blank { Blank (space_code space.old) (space_memory space.old) }
+    ensures { OnOk result (Appends (W.contents out.old) (W.contents out.new) (printed_of (take n file.now))) }
 {
     let mut text = String::new(alloc);
-    let mut next = first(&mut text, file, space)?;
+    let mut next = first(&mut text, file, n, space)?;
     out.write_all(text.as_bytes())?;
     while let Some(job) = next {
         text.clear();
@@ -68,7 +81,8 @@ fn main(rt: HostRuntime) -> io::Result<()> {
     print_job(
         rt.alloc(),
         &mut io::writer(&rt),
-        &file[..n],
+        &file,
+        n,
         &mut Space::new(),
     )
 }

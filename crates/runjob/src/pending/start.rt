@@ -1,4 +1,5 @@
 // The job that a file says, opened.
+ghost use Rattle.std.specs.Prelude.{◌≤◌, take};
 ghost use Rattle.runjob.specs.SpaceView.{space_code, space_memory};
 ghost use Rattle.runjob.specs.StartView.{Blank, Starts};
 
@@ -9,9 +10,11 @@ use job::job_file::{Words, read_job};
 use machine::lent::{LentCode, OpeningMemory};
 use machine_open::open::open;
 
-pub fn start(file: &[u8], space: &mut Space) -> Result<Pending, NotOpened>
-    requires { Blank (space_code space.old) (space_memory space.old) }
-    ensures { Starts file.now result (space_code space.new) (space_memory space.new) }
+// The file is the first n bytes: one more than a file may have are read, so that a longer one is seen.
+pub fn start(file: &[u8; 65537], n: usize, space: &mut Space) -> Result<Pending, NotOpened>
+    requires n_bound { n ≤ 65537 }
+    requires blank { Blank (space_code space.old) (space_memory space.old) }
+    ensures { Starts (take n file.now) result (space_code space.new) (space_memory space.new) }
 {
     let mut words = Words {
         opcodes: &mut space.opcodes,
@@ -22,7 +25,8 @@ pub fn start(file: &[u8], space: &mut Space) -> Result<Pending, NotOpened>
         addresses: &mut space.addresses,
         values: &mut space.values,
     };
-    let j = read_job(file, &mut words)?;
+    let read: &[u8] = file;
+    let j = read_job(&read[..n], &mut words)?;
     let slots = j.slots;
     let publics = j.publics;
     let secrets = j.secrets;

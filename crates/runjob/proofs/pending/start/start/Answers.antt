@@ -22,10 +22,10 @@ shared_ref_as_front-code-5 c = omega (arith, filled-inside c.in_ok-j.ensures.job
 
 pub returns-in_err-state : goal.returns-in_err-state
 returns-in_err-state c =
-    let b = c.requires in
+    let b = c.requires.blank in
     starts_refused _ _ _ _ c.in_ok-j.ensures.job _ b.op_stack b.origins b.destinations b.output b.addresses b.values refl refl _ _ _ c.in_err-state.ensures.opens c.from_residual-in_err-state.ensures.1
 
 pub returns : goal.returns
 returns c =
-    let b = c.requires in
+    let b = c.requires.blank in
     starts_opened _ _ _ _ c.in_ok-j.ensures.job _ b.op_stack b.origins b.destinations b.output b.addresses b.values refl refl _ _ c.in_ok-state.ensures.opens (opening-kept c.in_ok-state.ensures.lent) (omega arith)
