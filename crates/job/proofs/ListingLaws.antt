@@ -1,14 +1,18 @@
 -- Laws of the lines' texts. Assumes nothing.
 use mathlib.Core.Path.{◌≡◌, refl, sym, ap, ◌∙◌}
+use mathlib.Core.Bool.{Bool, true, false}
 use mathlib.Core.List.{List, [], ◌∷◌, ◌++◌, append_assoc, append-nil}
-use Prim.Native.Nat.{ℕ, ◌+◌, ◌≤◌, ◌<◌}
+use Prim.Native.Nat.{ℕ, zero, suc, ◌+◌, ◌/◌, ◌%◌, ◌^◌, ◌≤◌, ◌<◌}
 use native.Mathlib.Omega.{arith}
+use native.Mathlib.Nat.{pow-succ'}
 use native.Mathlib.Numerals.{add-one}
 use borrow.Author.Tests.{lt-ltb, le-ltb}
 use lib.ListN.{length, get_or, set, take, length-append}
-use lib.Seq.{take-suc, sets-eq}
+use lib.Seq.{take-suc, take-length, take_at, sets-eq}
+use lib.Dec.{ltb}
+use Rattle.choices.specs.Choice.{cond}
 use Rattle.machine_log.specs.Logged.{logged}
-use Rattle.machine_log.proofs.Logged.{joined, logged_none}
+use Rattle.machine_log.proofs.Logged.{logged-front, joined, logged_none}
 use Rattle.std.specs.Fmt.{decimal}
 use Rattle.std.proofs.lemmas.Fmt.{AppendsLastDigit, decimal_from_appends, length-decimal-le}
 use Rattle.job.specs.Listing.{digits_of, decimal_of, field_of, counts_of, out_line, Put}
@@ -19,6 +23,41 @@ use Rattle.job.specs.Printed.{out_lines}
 appends : AppendsLastDigit digits_of
 unfolding digits_of
 appends = record { one = λ k n h. rw (lt-ltb n 10 h); more = λ k n h. rw (le-ltb n 10 h) }
+
+-- more room changes nothing where the number has so few digits
+digits_more : (f n : ℕ) → 1 ≤ f → n < 10 ^ f → digits_of (suc f) n ≡ digits_of f n
+unfolding digits_of
+digits_more zero n h k = absurd (omega arith)
+digits_more (suc zero) n h k = rw (lt-ltb n 10 (omega arith))
+digits_more (suc (suc f)) n h k = ap (λ (u : List ℕ). cond (ltb n 10) ((48 + n) ∷ []) (u ++ ((48 + n % 10) ∷ []))) (digits_more (suc f) (n / 10) (omega arith) (omega (arith, rw pow-succ' at k)))
+
+digits_ten : (f n : ℕ) → 10 ≤ n → digits_of (suc f) n ≡ digits_of f (n / 10) ++ ((48 + n % 10) ∷ [])
+unfolding digits_of
+digits_ten f n h = rw (le-ltb n 10 h)
+
+digits_few : (f n : ℕ) → length (digits_of f n) ≤ f
+unfolding digits_of
+digits_few zero n = omega arith
+digits_few (suc f) n = go (ltb n 10) (digits_few f (n / 10))
+  where
+    go : (t : Bool) → length (digits_of f (n / 10)) ≤ f → length (cond t ((48 + n) ∷ []) (digits_of f (n / 10) ++ ((48 + n % 10) ∷ []))) ≤ suc f
+    go true h = omega arith
+    go false h = simp length-append (omega arith)
+
+pub decimal_few : (n : ℕ) → length (decimal_of n) ≤ 20
+unfolding decimal_of
+decimal_few n = digits_few 20 n
+
+pub decimal_one : (n : ℕ) → n < 10 → decimal_of n ≡ (48 + n) ∷ []
+unfolding decimal_of digits_of
+decimal_one n h = rw (lt-ltb n 10 h)
+
+pub decimal_more : (n : ℕ) → 10 ≤ n → n < 18446744073709551616 → decimal_of (n / 10) ++ ((48 + n % 10) ∷ []) ≡ decimal_of n
+unfolding decimal_of
+decimal_more n h k = ap (λ (u : List ℕ). u ++ ((48 + n % 10) ∷ [])) (digits_more 19 (n / 10) (omega arith) (omega arith)) ∙ sym (digits_ten 19 n h)
+
+pub decimal_length : (n : ℕ) → 10 ≤ n → n < 18446744073709551616 → length (decimal_of n) ≡ length (decimal_of (n / 10)) + 1
+decimal_length n h k = ap length (sym (decimal_more n h k)) ∙ length-append (decimal_of (n / 10)) _
 
 -- std's text of a number is ours
 decimal_is : (n : ℕ) → n < 18446744073709551616 → decimal n ≡ decimal_of n
@@ -66,6 +105,14 @@ pub put-at : (b : List ℕ) (at x next : ℕ) → at < length b → next ≡ at 
 unfolding logged
 put-at b at x next h e = record { is = sets-eq (x ∷ []) b at (omega arith); end = e; few = omega arith }
 
+pub put_one : (b : List ℕ) (at x : ℕ) → at < length b → Put b (set b at x) at (x ∷ []) 1 (at + 1)
+put_one b at x h = put-at b at x (at + 1) h refl
+
+pub put_all : {b b2 s : List ℕ} {at i next : ℕ} → i ≡ length s → Put b b2 at (take i s) i next → Put b b2 at s (length s) next
+put_all {b} {b2} {s} {at} {i} {next} e p =
+    let f : take i s ≡ s = rw (e, take-length) in
+    record { is = rw f at p.is; end = rw f at p.end; few = omega arith }
+
 -- the same text under another name, of at most m bytes
 pub put_as : {b b2 r s : List ℕ} {at n m next : ℕ} → Put b b2 at r n next → r ≡ s → length s ≤ m → Put b b2 at s m next
 put_as p e h = record { is = rw e at p.is; end = rw e at p.end; few = h }
@@ -79,6 +126,12 @@ put-more {b} {b1} {b2} {r} {s} {u} {at} {i} {j} {m} {n} {k} h p q g e =
       end = omega (arith, p.end, q.end);
       few = omega (arith, p.few, q.few);
     }
+
+-- what stands in front of the next place is the text
+pub put_front : {b b2 s : List ℕ} {most next : ℕ} → Put b b2 0 s most next → take next b2 ≡ s
+put_front {b} {b2} {s} {most} {next} p =
+    let e : length s ≡ next = omega (arith, p.end) in
+    ap (take next) (p.is ∙ logged-front b s) ∙ take_at s _ next e
 
 -- ---- the output's lines
 

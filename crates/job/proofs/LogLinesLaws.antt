@@ -2,19 +2,21 @@
 use mathlib.Core.Path.{◌≡◌, refl, sym, ap, ◌∙◌}
 use mathlib.Core.Bool.{Bool, true, false}
 use mathlib.Core.List.{List, [], ◌∷◌, ◌++◌, append_assoc, append-nil}
-use Prim.Native.Nat.{ℕ, zero, suc, ◌+◌, ◌≤◌, ◌<◌}
+use Prim.Native.Nat.{ℕ, zero, suc, ◌+◌, ◌*◌, ◌≤◌, ◌<◌}
 use native.Mathlib.Omega.{arith}
 use borrow.Author.Tests.{eqb-true, ltb-false, le-ltb, eq-eqb, ne_eqb}
 use lib.ListN.{length, get_or, take, drop, length-drop}
+use lib.Seq.{drop-drop}
 use lib.Dec.{eqb, ltb}
 use Rattle.choices.specs.Choice.{cond}
 use Rattle.machine.specs.Bytes.{number_of}
 use Rattle.machine.specs.Records.{Record, other, timed, ram, length_of, record_of, log_bytes, Parsed, ended, broken, found, framed, parse}
 use Rattle.machine.proofs.Records.{Sized, Shorter, at_record, parse-shorter, parse-record, many_bytes}
 use Rattle.job.specs.Frame.{kind_in, whole_by, size_by}
-use Rattle.job.specs.Listing.{direction_text, stack_line}
+use Rattle.job.specs.Listing.{direction_text, stack_line, Put}
 use Rattle.job.specs.LogLines.{line_of, lines_of, on_record, lines_in, log_lines}
 use Rattle.job.proofs.FrameLaws.{Whole, size_whole}
+use Rattle.job.proofs.ListingLaws.{put_as, put-more, put-none}
 
 -- a whole record is parsed
 parse-whole : (b : List ℕ) → Whole (length_of 1) b → parse 1 b ≡ found (record_of (kind_in b) (take (size_by (length_of 1) b) b)) (drop (size_by (length_of 1) b) b)
@@ -118,6 +120,48 @@ lines-next b c text line n e h f g all i =
 
 pub lines-last : (b text all : List ℕ) → size_by (length_of 1) b ≡ 0 → text ++ log_lines b ≡ all → text ≡ all
 lines-last b text all h i = sym (append-nil text) ∙ ap (λ (u : List ℕ). text ++ u) (sym (lines_end b h)) ∙ i
+
+-- ---- a lent buffer
+
+-- what a whole record at a place of the log says of the place
+pub whole-place : (b : List ℕ) (at n : ℕ) → at ≤ length b → 0 < n → n ≡ size_by (length_of 1) (drop at b) → (at + 4 ≤ length b) × (n ≡ length_of 1 (kind_in (drop at b)) + 2) × (at + n ≤ length b)
+whole-place b at n h k e =
+    let w = size_whole (length_of 1) (drop at b) (rw (← e) k) in
+    let l = length-drop at b in
+    (omega (arith, w.long), omega (arith, w.size), omega (arith, w.fits, w.size))
+
+-- one of kind 4 has 25 bytes
+pub place_four : (b : List ℕ) (at n k : ℕ) → at ≤ length b → 0 < n → n ≡ size_by (length_of 1) (drop at b) → k ≡ kind_in (drop at b) → k ≡ 4 → n ≡ 25
+unfolding length_of
+place_four b at n k h i e f g = let w = (whole-place b at n h i e).1 in w ∙ rw (← f, g)
+
+-- the lines of the records in front of place at are written
+pub record Lines (b o o2 : List ℕ) (to at next : ℕ) : Type 0 where
+  pub text : List ℕ
+  pub put : Put o o2 to text (3 * at) next
+  pub rest : text ++ log_lines (drop at b) ≡ log_lines b
+
+pub lines_none : (b o : List ℕ) (to : ℕ) → Lines b o o to 0 to
+lines_none b o to = record { text = []; put = put-none o to; rest = refl }
+
+pub lines_more : {b o o1 o2 : List ℕ} {to at next n next2 : ℕ} → to ≤ length o → at ≤ length b → 0 < n → n ≡ size_by (length_of 1) (drop at b) → Lines b o o1 to at next →
+    Put o1 o2 next (line_of (record_of (kind_in (drop at b)) (take n (drop at b)))) (3 * n) next2 → Lines b o o2 to (at + n) next2
+lines_more {b} {o} {o1} {o2} {to} {at} {next} {n} {next2} h i k e l p =
+    let line = line_of (record_of (kind_in (drop at b)) (take n (drop at b))) in
+    record {
+      text = l.text ++ line;
+      put = put-more h l.put p refl (omega arith);
+      rest =
+          append_assoc l.text line _
+          ∙ ap (λ (u : List ℕ). l.text ++ u)
+          (rw (← drop-drop n at b) (ap (λ (m : ℕ). line_of (record_of (kind_in (drop at b)) (take m (drop at b))) ++ log_lines (drop m (drop at b))) e ∙ sym (lines_turn (drop at b) (rw (← e) k))))
+          ∙ l.rest;
+    }
+
+pub lines-all : {b o o2 : List ℕ} {to at next n : ℕ} → at ≤ length b → n ≡ size_by (length_of 1) (drop at b) → n ≡ 0 → Lines b o o2 to at next → Put o o2 to (log_lines b) (3 * length b) next
+lines-all {b} {o} {o2} {to} {at} {next} {n} h e z l =
+    let f : l.text ≡ log_lines b = sym (append-nil l.text) ∙ ap (λ (u : List ℕ). l.text ++ u) (sym (lines_end (drop at b) (sym e ∙ z))) ∙ l.rest in
+    put_as l.put f (rw (← f) (omega (arith, l.put.few)))
 
 -- ---- a log that a job wrote
 

@@ -5,3 +5,4 @@ pub mod frame;
 pub mod job_file;
 pub mod listing;
 pub mod log_lines;
+pub mod put;

@@ -4,6 +4,7 @@ ghost use Rattle.job.specs.Listing.{direction_text, out_line};
 ghost use Rattle.job.specs.ListingView.{direction_number, stack_text_of, counts_text, end_text};
 ghost use Rattle.job.specs.Printed.{out_lines};
 
+pub use crate::put::{halted_line, out_line, out_lines, refused_line, spent_line, stack_line};
 use std::fmt;
 
 // Whether a word was read from the op stack's underflow or written to it.

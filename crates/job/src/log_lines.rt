@@ -10,6 +10,7 @@ ghost use Rattle.job.specs.LogLinesView.{text_of, NextRecord};
 
 use crate::frame::{kind_in, number_in, whole_in};
 use crate::listing::{Direction, StackLine};
+pub use crate::put::{record_length, stack_line_at, stack_lines};
 use machine_log::kinds::length_of;
 use std::fmt;
 

@@ -1,0 +1,10 @@
+use mathlib.Core.Path.{refl}
+use native.Mathlib.Omega.{arith}
+use Rattle.job.specs.Listing.{spent_line}
+use Rattle.job.proofs.ListingLaws.{put-more}
+use Rattle.job.proofs.put.spent_line.Goals as goal
+
+pub returns : goal.returns
+unfolding spent_line
+returns c =
+    put-more (omega arith) c.put_text-next.ensures c.put_counts.ensures refl refl
