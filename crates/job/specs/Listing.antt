@@ -1,5 +1,5 @@
 -- The lines that runjob prints, as bytes of ASCII.
-use Rattle.std.specs.Prelude.{◌≡◌, List, [], ◌∷◌, ◌++◌, ℕ, zero, suc, ◌+◌, ◌/◌, ◌%◌, ◌≤◌, length, eqb, ltb}
+use Rattle.std.specs.Prelude.{◌≡◌, List, [], ◌∷◌, ◌++◌, ℕ, zero, suc, ◌+◌, ◌/◌, ◌%◌, ◌≤◌, length, drop, eqb, ltb}
 use Rattle.choices.specs.Choice.{cond}
 use Rattle.machine_log.specs.Logged.{logged}
 
@@ -82,7 +82,13 @@ spent_line n q d = spent_text ++ counts_of n q d
 unfoldable pub refused_line : ℕ → ℕ → ℕ → ℕ → List ℕ
 refused_line k n q d = refused_text ++ spaced k ++ counts_of n q d
 
--- ---- what a writer does: b2 is b with a text from place at on, of at most so many bytes; next is the place behind it
+-- ---- what a writer does: b2 has a text from place start on, and behind it what b has from place end on
+
+pub record Before (b b2 : List ℕ) (end : ℕ) (text : List ℕ) (start : ℕ) : Type 0 where
+  pub is : drop start b2 ≡ text ++ drop end b
+  pub place : start + length text ≡ end
+
+-- b2 is b with a text from place at on, of at most so many bytes; next is the place behind it
 
 pub record Put (b b2 : List ℕ) (at : ℕ) (text : List ℕ) (most next : ℕ) : Type 0 where
   pub is : b2 ≡ logged b at text

@@ -2,6 +2,7 @@
 #![tactic(auto)]
 
 pub mod frame;
+mod from_end;
 pub mod job_file;
 pub mod listing;
 pub mod log_lines;

@@ -1,11 +1,13 @@
 // The lines that runjob prints, and the text of each.
-ghost use Rattle.std.specs.Prelude.{Some};
-ghost use Rattle.job.specs.Listing.{direction_text, out_line};
+ghost use Rattle.std.specs.Prelude.{◌≡◌, length, Some};
+ghost use Rattle.job.specs.Listing.{direction_text, stack_line, out_line, Before};
 ghost use Rattle.job.specs.ListingView.{direction_number, stack_text_of, counts_text, end_text};
 ghost use Rattle.job.specs.Printed.{out_lines};
 
+use crate::from_end::{field_before, text_before};
 pub use crate::put::{halted_line, out_line, out_lines, refused_line, spent_line, stack_line};
 use std::fmt;
+use std::str::from_utf8_unchecked;
 
 // Whether a word was read from the op stack's underflow or written to it.
 #[derive(Clone, Copy)]
@@ -14,24 +16,51 @@ pub enum Direction {
     Write,
 }
 
-impl fmt::Display for Direction {
-    ghost output = { λ d. Some (direction_text (direction_number d)) };
-
-    fn fmt<W: fmt::Write>(&self, f: &mut fmt::Formatter<W>) -> fmt::Result {
+impl Direction {
+    fn text(self) -> &'static str
+        ensures { result.now ≡ direction_text (direction_number self) }
+    {
         match self {
-            Direction::Read => f.write_str("read "),
-            Direction::Write => f.write_str("write "),
+            Direction::Read => "read ",
+            Direction::Write => "write ",
         }
     }
 }
 
-// A record of the op stack. Its parts are written one by one: `write!` with a format took 1.4 times as long for a listing of three million lines.
+impl fmt::Display for Direction {
+    ghost output = { λ d. Some (direction_text (direction_number d)) };
+
+    fn fmt<W: fmt::Write>(&self, f: &mut fmt::Formatter<W>) -> fmt::Result {
+        f.write_str(self.text())
+    }
+}
+
+// A record of the op stack. Its line is put together in a buffer of the greatest length and written at once: its parts one by one took 1.3 times as long for a listing of 15.7 MB.
 #[derive(Clone, Copy)]
 pub struct StackLine {
     pub clock: u64,
     pub pointer: u64,
     pub direction: Direction,
     pub value: u64,
+}
+
+// The line in the last bytes of b, and where it starts.
+#[inline(always)]
+fn stack_line_before(
+    b: &mut [u8],
+    clock: u64,
+    pointer: u64,
+    direction: Direction,
+    value: u64,
+) -> usize
+    requires { length b.old ≡ 75 }
+    ensures { Before b.old b.new 75 (stack_line clock pointer (direction_number direction) value) result }
+{
+    let fourth = field_before(b, 75, value, 10);
+    let third = text_before(b, fourth, direction.text().as_bytes());
+    let second = field_before(b, third, pointer, 32);
+    let first = field_before(b, second, clock, 32);
+    text_before(b, first, b"stack ")
 }
 
 impl fmt::Display for StackLine {
@@ -41,14 +70,9 @@ impl fmt::Display for StackLine {
         let clock = self.clock;
         let pointer = self.pointer;
         let value = self.value;
-        f.write_str("stack ")?;
-        clock.fmt(f)?;
-        f.write_str(" ")?;
-        pointer.fmt(f)?;
-        f.write_str(" ")?;
-        self.direction.fmt(f)?;
-        value.fmt(f)?;
-        f.write_str("\n")
+        let mut line = [0u8; 75];
+        let start = stack_line_before(&mut line, clock, pointer, self.direction, value);
+        f.write_str(unsafe { from_utf8_unchecked(&line[start..]) })
     }
 }
 
