@@ -110,7 +110,7 @@ record AdvancedAt (t : Bool) (m : Machine) (b : List ℕ) (at : ℕ) (r : Steppe
   bytes : r.bytes ≡ length (log_in (own_log t m) (outcome_by decide_of m))
   buffer : b2 ≡ logged b at (log_in (own_log t m) (outcome_by decide_of m))
 
-advanced-at : {t : Bool} {m : Machine} {b ys : List ℕ} {at : ℕ} {r : Stepped} {n : Memory} → at ≤ length b → Advanced t m (take (length b - at) (drop at b)) r n ys →
+pub advanced-at : {t : Bool} {m : Machine} {b ys : List ℕ} {at : ℕ} {r : Stepped} {n : Memory} → at ≤ length b → Advanced t m (take (length b - at) (drop at b)) r n ys →
     AdvancedAt t m b at r n (take at b ++ (ys ++ drop (length b - at) (drop at b)))
 advanced-at {t} {m} {b} {ys} {at} {r} {n} h a =
     let k = advanced-log t m (take (length b - at) (drop at b)) in
@@ -353,7 +353,7 @@ own-fits true own room most h l = let k = ltb-false room most l in omega arith
 own-fits false own room most h l = zero-le
 
 -- in either revision
-most_few : (v : ℕ) → most_bytes v ≤ 1028
+pub most_few : (v : ℕ) → most_bytes v ≤ 1028
 unfolding most_bytes clock_bytes
 most_few v = go (eqb v 2)
   where
