@@ -105,10 +105,10 @@ advanced-log t m b = go (cond t (log_bytes m.state.revision (records_in m (decid
     go own (lost r x) = (refl, logged_none b 0)
 
 -- the same behind place `at` of the log b, which becomes b2
-record AdvancedAt (t : Bool) (m : Machine) (b : List ℕ) (at : ℕ) (r : Stepped) (n : Memory) (b2 : List ℕ) : Type 0 where
-  gives : Gives m (outcome_by decide_of m) r.answer (machine r.state m.code n)
-  bytes : r.bytes ≡ length (log_in (own_log t m) (outcome_by decide_of m))
-  buffer : b2 ≡ logged b at (log_in (own_log t m) (outcome_by decide_of m))
+pub record AdvancedAt (t : Bool) (m : Machine) (b : List ℕ) (at : ℕ) (r : Stepped) (n : Memory) (b2 : List ℕ) : Type 0 where
+  pub gives : Gives m (outcome_by decide_of m) r.answer (machine r.state m.code n)
+  pub bytes : r.bytes ≡ length (log_in (own_log t m) (outcome_by decide_of m))
+  pub buffer : b2 ≡ logged b at (log_in (own_log t m) (outcome_by decide_of m))
 
 pub advanced-at : {t : Bool} {m : Machine} {b ys : List ℕ} {at : ℕ} {r : Stepped} {n : Memory} → at ≤ length b → Advanced t m (take (length b - at) (drop at b)) r n ys →
     AdvancedAt t m b at r n (take at b ++ (ys ++ drop (length b - at) (drop at b)))
