@@ -20,13 +20,13 @@ use Rattle.machine.specs.declared.refusal.PlaceA.{PlaceA}
 use Rattle.machine.specs.declared.refusal.FeeError.{FeeError}
 use Rattle.machine.specs.declared.refusal.InstructionError.{InstructionError}
 use Rattle.machine.specs.declared.refusal.InstructionError.TheVariants as E
-use Rattle.machine.specs.Refusal.{number_a, fee_refusal, refusal_of, found}
-use Rattle.machine_fees.specs.FeeView.{found_fee, carrying, FoundIn, Shaped, Priceable, OpcodesChecked, TableChecked, FeesChecked}
+use Rattle.machine.specs.Refusal.{number_a, fee_refusal, refusal_of, found, found_a}
+use Rattle.machine_fees.specs.FeeView.{found_fee, carrying, FoundIn, Shaped, Priceable, OpcodesChecked, TableChecked, FeesChecked, HandsOn, Numbered, FeesBehind}
 use Rattle.machine_fees.specs.declared.fee_table.Found.{Found}
 use Rattle.choices.proofs.Choice.{above-not, above-is}
 use Rattle.machine.proofs.Words.{zeros_get_d}
 use Rattle.machine.proofs.FeeTable.{known_low, table_lowest, table-highest, table_narrow}
-use Rattle.machine.proofs.Refused.{number_a_some, fee_some}
+use Rattle.machine.proofs.Refused.{number_a_some, fee_some, refusal_some}
 use Rattle.machine_place_a.proofs.ChecksLaws.{scan_more, scan_stop}
 
 -- ---- 1 and 64
@@ -276,6 +276,35 @@ fees_none n r e ps h d =
 
 pub fees_unpriced : (n : ℕ) (v : Unit {0}) (ps : List ℕ) → 0 ≡ n → FeesChecked unpriced n (Ok v) ps
 fees_unpriced n v ps h = record { fault = rw h refl; prices = λ _. tt }
+
+-- what was found before, by its number
+module _ {E : Type 0} (converts : E → InstructionError → Type 0) (n : ℕ) where
+  pub hands_error : (h : Result (Unit {0}) E) (e : InstructionError) → HandsOn converts h (Err e) → Numbered converts h n → refusal_of e ≡ plainly n
+  hands_error (Ok v) e d k = absurd (not_ok d)
+  hands_error (Err x) e d k = k e d
+
+  pub hands_nothing : (h : Result (Unit {0}) E) (v : Unit {0}) → HandsOn converts h (Ok v) → Numbered converts h n → 0 ≡ n
+  hands_nothing (Ok v) u d k = sym k
+  hands_nothing (Err x) u d k = absurd d
+
+pub fees_behind : (t : FeeTable) (n : ℕ) (r : Result (Unit {0}) InstructionError) (e : InstructionError) (ps : List ℕ) → 0 ≡ table1 t → refusal_of e ≡ plainly n → IsErrAnd r (λ x. x ≡ e) → FeesChecked (priced t) n r ps
+unfolding first_of
+fees_behind t n r e ps g h d =
+    let x = refused r e d in
+    let k : n ≡ 0 → ⊥ = λ z. omega (arith, refusal_some e, ap (λ y. y.number) h) in
+    record {
+      fault = x.0 ∙ h ∙ rw (← g, ne_eqb n 0 k) refl;
+      prices = λ z. absurd (x.1 z);
+    }
+
+-- for callers: behind place A, by its number
+pub behind_a : {f : Fees} {h : Result (Unit {0}) PlaceA} {r : Result (Unit {0}) InstructionError} {ps : List ℕ} → FeesBehind (λ e x. x ≡ E.Handed e) f h r ps → FeesChecked f (found_a h) r ps
+unfolding refusal_of
+behind_a {f} {h} {r} {ps} s = s.at (found_a h) (go h)
+  where
+    go : (q : Result (Unit {0}) PlaceA) → Numbered (λ e x. x ≡ E.Handed e) q (found_a q)
+    go (Ok v) = refl
+    go (Err e) = λ x k. ap refusal_of k
 
 -- for callers: nothing is wrong where the code says so
 pub fees_fine : (f : Fees) (n : ℕ) (r : Result (Unit {0}) InstructionError) (ps : List ℕ) → FeesChecked f n r ps → IsOk r → (checked f n).number ≡ 0

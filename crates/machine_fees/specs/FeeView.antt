@@ -1,8 +1,8 @@
 -- What the code's answers about a fee table stand for.
-use Rattle.std.specs.Prelude.{ℕ, ◌≤◌, ◌≡◌, true, List, length, get_or, Result, IsOk, Option, Some, None, ⊤}
+use Rattle.std.specs.Prelude.{ℕ, ◌≤◌, ◌≡◌, true, List, length, get_or, Result, Ok, Err, IsOk, IsErrAnd, Option, Some, None, ⊤}
 use Rattle.machine.specs.declared.refusal.FeeError.{FeeError}
 use Rattle.machine.specs.declared.refusal.InstructionError.{InstructionError}
-use Rattle.machine.specs.Refusal.{Refusal, refusal, plainly, fee_refusal, found_by, found}
+use Rattle.machine.specs.Refusal.{Refusal, refusal, plainly, fee_refusal, refusal_of, found_by, found}
 use Rattle.machine.specs.Instruction.{decode, known_in}
 use Rattle.machine.specs.FeeTable.{FeeTable, fee_table, times, row_for, price_of, earlier, unpriced65, priced_twice66, table_fault, Fees, unpriced, priced, checked}
 use Rattle.machine_fees.specs.declared.fee_table.Found.{Found}
@@ -64,3 +64,17 @@ Pricing (priced t) ps = PricesOf t ps
 pub record FeesChecked (f : Fees) (n : ℕ) (r : Result (Unit {0}) InstructionError) (ps : List ℕ) : Type 0 where
   pub fault : found r ≡ checked f n
   pub prices : IsOk r → Pricing f ps
+
+-- an error found before is handed on
+abbrev pub HandsOn : {E : Type 0} → (E → InstructionError → Type 0) → Result (Unit {0}) E → Result (Unit {0}) InstructionError → Type 0
+HandsOn converts (Ok _) r = IsOk r
+HandsOn converts (Err e) r = IsErrAnd r (converts e)
+
+-- n is its number, and it carries no words; 0 where there is none
+abbrev pub Numbered : {E : Type 0} → (E → InstructionError → Type 0) → Result (Unit {0}) E → ℕ → Type 0
+Numbered converts (Ok _) n = n ≡ 0
+Numbered converts (Err e) n = (x : InstructionError) → converts e x → refusal_of x ≡ plainly n
+
+-- the same behind a check of any kind, in the place of place A
+pub record FeesBehind {E : Type 0} (converts : E → InstructionError → Type 0) (f : Fees) (h : Result (Unit {0}) E) (r : Result (Unit {0}) InstructionError) (ps : List ℕ) : Type 0 where
+  pub at : (n : ℕ) → Numbered converts h n → FeesChecked f n r ps

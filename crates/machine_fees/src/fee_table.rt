@@ -6,7 +6,7 @@ ghost use Rattle.std.specs.Prelude.{◌≡◌, true, false, length, get_or, ltb,
 ghost use Rattle.choices.specs.Choice.{cond, above_of};
 ghost use Rattle.machine.specs.Refusal.{plainly, found_a};
 ghost use Rattle.machine.specs.FeeTable.{wide1, table1, rows64, earlier};
-ghost use Rattle.machine_fees.specs.FeeView.{table_of, fees_of, found_fee, carrying, FoundIn, Shaped, Priceable, OpcodesChecked, TableChecked, FeesChecked};
+ghost use Rattle.machine_fees.specs.FeeView.{table_of, fees_of, found_fee, carrying, FoundIn, Shaped, Priceable, OpcodesChecked, TableChecked, HandsOn, FeesBehind};
 
 use machine::refusal::{FeeError, InstructionError, PlaceA};
 use machine_isa::instruction::is_known;
@@ -156,20 +156,30 @@ fn check_table(table: &LentFees<'_>, prices: &mut [u64]) -> Result<(), FeeError>
 
 // ---- a call with a table, or without
 
-// What a call finds wrong, where `handed` is what place A found; with a good table the prices of the opcodes are in prices.
-pub fn check_fees(
+// An error found before, of any kind that an InstructionError is made of.
+fn hand_on<E: Into<InstructionError>>(handed: Result<(), E>) -> Result<(), InstructionError>
+    ensures { HandsOn E.converts handed result }
+{
+    match handed {
+        Ok(()) => Ok(()),
+        Err(error) => Err(error.into()),
+    }
+}
+
+// What a call finds wrong, where `handed` is what it found before; with a good table the prices of the opcodes are in prices.
+pub fn check_fees<E: Into<InstructionError> + Drop>(
     fees: Option<LentFees<'_>>,
-    handed: Result<(), PlaceA>,
+    handed: Result<(), E>,
     prices: &mut [u64],
 ) -> Result<(), InstructionError>
     requires { IsSome fees → Priceable prices.old }
-    ensures { FeesChecked (fees_of fees.entry) (found_a handed) result prices.new }
+    ensures { FeesBehind E.converts (fees_of fees.entry) handed result prices.new }
 {
     match fees {
-        None => handed?,
+        None => hand_on(handed)?,
         Some(table) => {
             check_slices(&table)?;
-            handed?;
+            hand_on(handed)?;
             check_table(&table, prices)?;
         }
     }
