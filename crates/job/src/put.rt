@@ -183,7 +183,8 @@ pub fn record_length(log: &[u8], at: usize) -> usize
     }
 }
 
-fn kind_at(log: &[u8], at: usize) -> u64
+// Its kind.
+pub fn kind_at(log: &[u8], at: usize) -> u64
     requires { at + 4 ≤ length log.now }
     ensures { result ≡ kind_in (drop at log.now) }
 {
