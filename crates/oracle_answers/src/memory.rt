@@ -36,7 +36,9 @@ impl Code {
         })
     }
 
-    pub fn resize(&mut self, lengths: Lengths) -> Result<(), AllocError> {
+    pub fn resize(&mut self, lengths: Lengths) -> Result<(), AllocError>
+        ensures { IfOk result (λ _. (length self.new.opcodes.items ≤ 64) × (length self.new.arguments.items ≤ 64) × (length self.new.public.items ≤ 64) × (length self.new.secret.items ≤ 64) × (length self.new.digests.items ≤ 64)) }
+    {
         lend(&mut self.opcodes, lengths.opcodes)?;
         lend(&mut self.arguments, lengths.arguments)?;
         lend(&mut self.public, lengths.public)?;
@@ -71,7 +73,9 @@ impl Memory {
         })
     }
 
-    pub fn resize(&mut self, lengths: Lengths) -> Result<(), AllocError> {
+    pub fn resize(&mut self, lengths: Lengths) -> Result<(), AllocError>
+        ensures { IfOk result (λ _. (length self.new.op_stack.items ≤ 64) × (length self.new.origins.items ≤ 64) × (length self.new.destinations.items ≤ 64) × (length self.new.addresses.items ≤ 64) × (length self.new.values.items ≤ 64) × (length self.new.output.items ≤ 64)) }
+    {
         lend(&mut self.op_stack, lengths.op_stack)?;
         lend(&mut self.origins, lengths.origins)?;
         lend(&mut self.destinations, lengths.destinations)?;
