@@ -1,4 +1,4 @@
-use Rattle.std.proofs.Common.{◌≤◌, ℕ, length, refl, arith}
+use Rattle.std.proofs.Common.{◌≤◌, length, refl, arith}
 use Rattle.job.proofs.ListingLaws.{before-more, field_few, direction_few, stack_parts}
 use Rattle.job.proofs.listing.stack_line_before.Goals as goal
 
