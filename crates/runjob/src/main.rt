@@ -51,7 +51,7 @@ fn first(
 }
 
 // Piece after piece, until no more are to come. A piece's text is written at once: each part of a line to a `BufWriter` took 1.3 times as long.
-// The whole text in a lent array of the greatest length was slower for short listings (3.3 ms against 2.2): the array was zeroed first.
+// The whole text in a lent array of the greatest length was slower for short listings (3.3 ms against 2.2).
 fn print_job<W: Write>(
     alloc: Global,
     out: &mut W,
