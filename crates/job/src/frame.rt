@@ -3,6 +3,8 @@ ghost use Rattle.std.specs.Prelude.{◌≡◌, ◌++◌, ◌-◌, ◌^◌, ◌�
 ghost use Rattle.machine.specs.Bytes.{number_of};
 ghost use Rattle.job.specs.Frame.{kind_in, whole_by, Stands};
 
+pub use crate::put::kind_at;
+
 // Bytes with zeros behind them.
 fn padded(bytes: &[u8]) -> [u8; 8]
     requires { length bytes.now ≤ 8 }

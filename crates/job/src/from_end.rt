@@ -24,7 +24,7 @@ pub fn text_before(b: &mut [u8], end: usize, text: &[u8]) -> usize
 
 // The character of a digit.
 #[inline(always)]
-fn digit(v: u64) -> u8
+pub fn digit(v: u64) -> u8
     requires { v < 10 }
     ensures { result ≡ 48 + v }
 {

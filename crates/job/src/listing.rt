@@ -73,6 +73,7 @@ impl fmt::Display for StackLine {
         let value = self.value;
         let mut line = [0u8; 75];
         let start = stack_line_before(&mut line, clock, pointer, self.direction, value);
+        // that the bytes are text is proved, and not looked at once more
         f.write_str(unsafe { from_utf8_unchecked(&line[start..]) })
     }
 }

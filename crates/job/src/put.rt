@@ -1,4 +1,5 @@
-// The same lines put into a lent buffer, which cannot fail. Each writer puts its text behind place `at` and gives the place behind it.
+// The lines of `listing` and `log_lines` put into a lent buffer, which cannot fail: for callers of this crate that have no writer. Each puts its text behind
+// place `at` and gives the place behind it.
 ghost use Rattle.std.specs.Prelude.{◌≡◌, [] as Nil, ◌∷◌, ◌+◌, ◌*◌, ◌≤◌, ◌<◌, length, take, drop};
 ghost use Rattle.machine.specs.Records.{length_of, record_of};
 ghost use Rattle.job.specs.Frame.{kind_in, size_by};
@@ -8,6 +9,7 @@ ghost use Rattle.job.specs.LogLines.{line_of, log_lines};
 ghost use Rattle.job.specs.Printed.{out_lines};
 
 use crate::frame::kind_in;
+use crate::from_end::digit;
 use crate::listing::Direction;
 use crate::log_lines::{record_in, stack_line_in};
 
@@ -32,14 +34,6 @@ fn put_text(b: &mut [u8], at: usize, text: &[u8]) -> usize
         i += 1;
     }
     next
-}
-
-// The character of a digit.
-fn digit(v: u64) -> u8
-    requires { v < 10 }
-    ensures { result ≡ 48 + v }
-{
-    48 + v as u8
 }
 
 // Calls itself at most nineteen times.

@@ -1,4 +1,4 @@
-use Rattle.machine_steps.proofs.StepsLaws.{advanced_fits, advanced_stepped, advanced-refused}
+use Rattle.machine_steps.proofs.StepsLaws.{advanced_stepped, advanced-refused}
 use Rattle.machine_steps.proofs.steps.advance_at.Goals as goal
 
 pub returns-in_err-stepped-clause-stepped : goal.returns-in_err-stepped-clause-stepped
