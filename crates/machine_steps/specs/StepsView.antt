@@ -28,6 +28,11 @@ abbrev pub price_by : Option (List ℕ) → ℕ → ℕ
 price_by None o = 0
 price_by (Some prices) o = get_or prices o 0
 
+-- where it is not so, neither rows nor prices are asked for
+pub record AsksBeside (u : Bool) (ps : Option (List ℕ)) (r : Bool) : Type 0 where
+  pub rows : r ≡ false → u ≡ false
+  pub prices : r ≡ false → ps ≡ None
+
 -- a slot whose opcode has one
 pub record PricedAt (prices : Option (List ℕ)) (opcodes : List ℕ) (pointer : ℕ) : Type 0 where
   pub there : IfSome prices (λ s. (pointer < length opcodes) × (get_or opcodes pointer 0 < length s))

@@ -9,7 +9,7 @@ ghost use Rattle.machine.specs.Lent.{code_of, memory_of, Keeps};
 ghost use Rattle.machine_quick.specs.QuickView.{Walking, Quicked};
 ghost use Rattle.machine_rows.specs.RowView.{Rowable, RowTaken, RowPut};
 ghost use Rattle.machine_steps.specs.RanView.{end_of};
-ghost use Rattle.machine_steps.specs.StepsView.{left_of, short_of, end_full, price_by, PricedAt, StandingAt, SteppedAt, StandingIn, StepsOn};
+ghost use Rattle.machine_steps.specs.StepsView.{left_of, short_of, end_full, price_by, AsksBeside, PricedAt, StandingAt, SteppedAt, StandingIn, StepsOn};
 
 use crate::answer::{Ending, Ran};
 use machine::lent::{LentCode, LentMemory};
@@ -144,6 +144,16 @@ fn advance_at(
     Ok(at + stepped.bytes)
 }
 
+// Whether rows or prices are asked for: a step with neither pays one test for both.
+fn asks_beside(tabling: bool, prices: Option<&[u64]>) -> bool
+    ensures { AsksBeside tabling (option_copied prices.entry) result }
+{
+    match prices {
+        Some(_) => true,
+        None => tabling,
+    }
+}
+
 // One step, a quick one where there is one, with its records behind place `at` of the log; gives the place behind them.
 #[inline(always)]
 fn step_at(
@@ -215,6 +225,7 @@ pub fn steps(
     let mut at: usize = 0;
     let mut filled: usize = 0;
     let mut fee: u64 = 0;
+    let beside = asks_beside(tabling, prices);
     let mut row = [0u64; 37];
     take_row(tabling, &mut row, &state, code, &memory.look());
     while count < budget && !now.halted {
@@ -248,6 +259,9 @@ pub fn steps(
             }
         }
         count += 1;
+        if !beside {
+            continue;
+        }
         fee += price(prices, code.opcodes, from);
         filled = put_row(tabling, table, filled, &mut row, &now, code, memory);
     }

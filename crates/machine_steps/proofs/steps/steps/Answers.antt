@@ -1,5 +1,5 @@
 use Rattle.std.proofs.Common.{◌+◌, sym, ap, ◌∙◌, arith}
-use Rattle.machine_rows.proofs.RowLaws.{sound-rowable}
+use Rattle.machine_rows.proofs.RowLaws.{put_unasked, taken_unasked, sound-rowable}
 use Rattle.machine_steps.proofs.StepsLaws.{keeps_same, keeps_on, steps_start, steps_fill, steps_stand, steps-sound, steps-priced, steps_go, steps-stop, steps_spend, steps-halt, row_room, price_there}
 use Rattle.machine_steps.proofs.steps.steps.Goals as goal
 use Rattle.machine_steps.proofs.steps.steps.Goals.{then-loop-count-test+else-not-now, else-loop-count-test}
@@ -33,6 +33,18 @@ put_row-filled-requires c =
       l.long,
       (sound-rowable _ (steps-sound l.going c.loop-count-test.true c.if-not-now.true room c.in-Ok.ensures.stepped)),
     )
+
+pub loop-count-preserved-then-not-beside : goal.loop-count-preserved-then-not-beside
+loop-count-preserved-then-not-beside c =
+    let l = c.loop-count.invariant in
+    let u = c.asks_beside-beside.ensures.rows c.if-not-beside.true in
+    let none = c.asks_beside-beside.ensures.prices c.if-not-beside.true in
+    record {
+      going = steps_go l.going c.loop-count-test.true c.if-not-now.true (sym c.short.ensures ∙ c.if-short.false) c.in-Ok.ensures.stepped l.row (put_unasked u _ _ _) (rw none (omega arith));
+      row = taken_unasked u;
+      long = l.long;
+      lent = keeps_on l.lent c.step_at.ensures.lent;
+    }
 
 pub loop-count-preserved : goal.loop-count-preserved
 loop-count-preserved c =
