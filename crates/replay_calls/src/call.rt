@@ -14,9 +14,9 @@ ghost use Rattle.replay_calls.specs.RefusalView.{number_in};
 ghost use Rattle.replay_calls.specs.ReplayView.{replayed_by};
 ghost use Rattle.replay_calls.specs.Quiet.{Quiet};
 
-use crate::place_a::check_replay;
+use crate::place_a::check_replay_seen;
 use crate::refusal::Refusal;
-use replay_group::group::sweep_all;
+use replay_group::group::sweep_all_seen;
 use replay_group::write::write_back;
 use replay_scan::fault::Fault;
 use replay_scan::record::Log;
@@ -39,7 +39,7 @@ fn decide(
     ensures kept { KeptTable table.old table.new }
 {
     let room = cells.addresses.len() - cells.count;
-    let all = sweep_all(log, to, cells, table);
+    let all = sweep_all_seen(log, to, cells, table);
     if all.end == to {
         if room < all.cells {
             return Err(Fault::NoRoom);
@@ -49,7 +49,7 @@ fn decide(
             None => Ok(all.groups == 1),
         };
     }
-    let right = sweep_all(log, all.end, cells, table);
+    let right = sweep_all_seen(log, all.end, cells, table);
     if room < right.cells {
         return Err(Fault::NoRoom);
     }
@@ -134,7 +134,7 @@ pub fn replay(
     ensures kept { Kept cells.old cells.new }
 {
     let opening = look(cells);
-    check_replay(log, &opening, words)?;
+    check_replay_seen(log, &opening, words)?;
     let scan = scan_log(log, words, clock);
     if let Err(fault) = by_table(log, scan, cells) {
         words.fill(0);

@@ -5,6 +5,7 @@ use Rattle.machine.specs.Ram.{Cells, cells}
 use Rattle.machine.specs.Records.{Record}
 use Rattle.replay_group.specs.declared.group.Sweep.{Sweep}
 use Rattle.std.specs.Borrow.{Bor}
+use Rattle.machine_ram.specs.declared.ram_mut.RamMut.{RamMut}
 use Rattle.replay_table.specs.declared.cells.SeenCells.{SeenCells}
 use Rattle.replay_table.specs.declared.table.Table.{Table as LentTable}
 use Rattle.machine_ram.specs.LentCells.{cells_of_mut}
@@ -24,13 +25,22 @@ abbrev pub LentTo : LentTable → Type 0
 LentTo t = Lent t.cells.addresses.now t.cells.values.now t.late.addresses.now t.late.values.now
 
 -- reads are looked at where the opening's cells are given
-abbrev pub looks : Option (Bor SeenCells) → Bool
+abbrev pub looks : Option (Bor RamMut) → Bool
 looks None = false
 looks (Some c) = true
 
-abbrev pub opening_of : Option (Bor SeenCells) → Cells
+abbrev pub opening_of : Option (Bor RamMut) → Cells
 opening_of None = no_cells
-opening_of (Some c) = seen_cells c.now
+opening_of (Some c) = cells_of_mut c.now
+
+-- the same of cells that are lent to be looked at
+abbrev pub looks_seen : Option (Bor SeenCells) → Bool
+looks_seen None = false
+looks_seen (Some c) = true
+
+abbrev pub opening_of_seen : Option (Bor SeenCells) → Cells
+opening_of_seen None = no_cells
+opening_of_seen (Some c) = seen_cells c.now
 
 -- of the records rs those before the place `end` made the table; where reads are looked at, they are right, and no more are
 pub record Gathered (log : Log) (checking : Bool) (lo hi : ℕ) (c : Cells) (rs : List Record) (end : ℕ) (t l : Cells) : Type 0 where

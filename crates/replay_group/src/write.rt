@@ -7,10 +7,10 @@ ghost use Rattle.replay_group.specs.GroupView.{LentTo};
 ghost use Rattle.replay_group.specs.WriteView.{Fits, Brings, Fitting, Written, Few};
 ghost use Rattle.replay_group.specs.Decided.{LeftIn};
 
-use crate::group::group_from;
+use crate::group::group_from_seen;
 use field::base::P;
 use replay_scan::record::Log;
-use replay_table::cells::{Cells, SeenCells, lacked, look, merge};
+use replay_table::cells::{Cells, SeenCells, lacked_seen, look, merge_seen};
 use replay_table::table::Table;
 
 // A table's cells.
@@ -20,11 +20,11 @@ fn bring(cells: &mut Cells<'_>, from: &SeenCells<'_>)
     ensures kept { Kept cells.old cells.new }
 {
     let own = look(cells);
-    let total = own.count + lacked(&own, from);
-    merge(cells, from, total);
+    let total = own.count + lacked_seen(&own, from);
+    merge_seen(cells, from, total);
 }
 
-// The records before `to`, group by group; gives how many groups there were. A `while`, as in sweep_all.
+// The records before `to`, group by group; gives how many groups there were. A `while`, as in sweep_all_seen.
 fn write_groups(log: Log<'_>, to: usize, cells: &mut Cells<'_>, table: &mut Table<'_>) -> usize
     requires { Fitting (log_at log) to (cells_of_mut cells.old) × LentTo table.old }
     ensures written { Written (log_at log.entry) to (cells_of_mut cells.old) (cells_of_mut cells.new) }
@@ -36,7 +36,7 @@ fn write_groups(log: Log<'_>, to: usize, cells: &mut Cells<'_>, table: &mut Tabl
     let mut low = 0;
     while low < P {
         groups += 1;
-        let group = group_from(log, to, low, None, table);
+        let group = group_from_seen(log, to, low, None, table);
         let written = look(&table.cells);
         bring(cells, &written);
         low = group.high;

@@ -69,7 +69,7 @@ fn lacks(cells: &SeenCells<'_>, address: u64) -> usize
 }
 
 // How many of other cells have an address that these lack.
-pub fn lacked(cells: &SeenCells<'_>, from: &SeenCells<'_>) -> usize
+pub fn lacked_seen(cells: &SeenCells<'_>, from: &SeenCells<'_>) -> usize
     requires ordered { Ordered cells.now.addresses.now cells.now.count }
     requires within { from.now.count ≤ length from.now.addresses.now }
     ensures { Lacked cells.now.addresses.now cells.now.count from.now.addresses.now from.now.count result }
@@ -81,8 +81,17 @@ pub fn lacked(cells: &SeenCells<'_>, from: &SeenCells<'_>) -> usize
     new
 }
 
+// The same of cells as they are lent.
+pub fn lacked(cells: &Cells<'_>, from: &Cells<'_>) -> usize
+    requires ordered { Ordered cells.now.addresses.now cells.now.count }
+    requires within { from.now.count ≤ length from.now.addresses.now }
+    ensures { Lacked cells.now.addresses.now cells.now.count from.now.addresses.now from.now.count result }
+{
+    lacked_seen(&look(cells), &look(from))
+}
+
 // Brings others into these, which are `total` then.
-pub fn merge(cells: &mut Cells<'_>, from: &SeenCells<'_>, total: usize)
+pub fn merge_seen(cells: &mut Cells<'_>, from: &SeenCells<'_>, total: usize)
     requires { Merging (cells_of_mut cells.old) (seen_cells from.now) total }
     ensures merged { Merged (cells_of_mut cells.old) (seen_cells from.now) (cells_of_mut cells.new) }
     ensures count { cells.new.count ≡ total }
@@ -98,4 +107,47 @@ pub fn merge(cells: &mut Cells<'_>, from: &SeenCells<'_>, total: usize)
         total,
     );
     cells.count = total;
+}
+
+// The same, where the others are lent as these are.
+pub fn merge(cells: &mut Cells<'_>, from: &Cells<'_>, total: usize)
+    requires { Merging (cells_of_mut cells.old) (cells_of_mut from.now) total }
+    ensures merged { Merged (cells_of_mut cells.old) (cells_of_mut from.now) (cells_of_mut cells.new) }
+    ensures count { cells.new.count ≡ total }
+    ensures kept { Kept cells.old cells.new }
+{
+    merge_seen(cells, &look(from), total);
+}
+
+#[cfg(test)]
+mod tests {
+    use super::*;
+    use std::test::Fail;
+
+    // Of 5 and 7 only 7 is new; 5 gets the word that is brought.
+    #[test]
+    fn brings_lent_cells(rt: HostRuntime) -> Result<(), Fail> {
+        let mut addresses = [5, 0];
+        let mut values = [50, 0];
+        let mut keys = [5, 7];
+        let mut words = [51, 70];
+        let mut cells = Cells {
+            addresses: &mut addresses,
+            values: &mut values,
+            count: 1,
+        };
+        let from = Cells {
+            addresses: &mut keys,
+            values: &mut words,
+            count: 2,
+        };
+        assert_eq!(rt; lacked(&cells, &from), 1);
+        merge(&mut cells, &from, 2);
+        assert_eq!(rt; cells.count, 2);
+        assert_eq!(rt; cells.addresses[0], 5);
+        assert_eq!(rt; cells.addresses[1], 7);
+        assert_eq!(rt; cells.values[0], 51);
+        assert_eq!(rt; cells.values[1], 70);
+        Ok(())
+    }
 }

@@ -8,7 +8,7 @@ ghost use Rattle.replay_table.specs.TableView.{Waits};
 ghost use Rattle.replay_table.specs.LentView.{Kept, KeptTable, Alike, Shows, seen_cells};
 ghost use Rattle.machine_ram.specs.LentCells.{cells_of_mut};
 
-use crate::cells::{Cells, SeenCells, look, merge};
+use crate::cells::{Cells, SeenCells, look, merge_seen};
 use machine_ram::addresses::Addresses;
 
 // Most cells stand in the table's own; the latest in a few beside, where a new cell moves few, and which are merged into the others. What its
@@ -117,7 +117,7 @@ pub fn settle(cells: &mut Cells<'_>, late: &SeenCells<'_>)
     let most = cells.addresses.len();
     let total = cells.count + late.count;
     prove!(total <= most);
-    merge(cells, late, total);
+    merge_seen(cells, late, total);
 }
 
 // Room by merging; where the table is full then, only its lower half is kept, and the group ends before the rest.
@@ -177,11 +177,19 @@ impl Table<'_> {
         }
     }
 
-    pub fn word_at(&self, opening: &SeenCells<'_>, address: u64) -> u64
+    pub fn word_at_seen(&self, opening: &SeenCells<'_>, address: u64) -> u64
         requires { Paired (cells_of_mut self.now.cells) (cells_of_mut self.now.late) × Sorted (seen_cells opening.now) }
         ensures { result ≡ seen (cells_of_mut self.now.cells) (cells_of_mut self.now.late) address (held (seen_cells opening.now) address) }
     {
         self.look().word_at(opening, address)
+    }
+
+    // The same, where the opening is lent as the table is.
+    pub fn word_at(&self, opening: &Cells<'_>, address: u64) -> u64
+        requires { Paired (cells_of_mut self.now.cells) (cells_of_mut self.now.late) × Sorted (cells_of_mut opening.now) }
+        ensures { result ≡ seen (cells_of_mut self.now.cells) (cells_of_mut self.now.late) address (held (cells_of_mut opening.now) address) }
+    {
+        self.word_at_seen(&look(opening), address)
     }
 
     pub fn put(&mut self, address: u64, value: u64)
@@ -225,5 +233,42 @@ impl Table<'_> {
         let made = make_room(&mut self.cells, &late, hi);
         self.late.count = made.late;
         made.high
+    }
+}
+
+#[cfg(test)]
+mod tests {
+    use super::*;
+    use std::test::Fail;
+
+    // 5 stands in the table, 7 among the late cells, and both in the opening too, 9 in the opening alone, and 11 nowhere.
+    #[test]
+    fn word_of_a_lent_opening(rt: HostRuntime) -> Result<(), Fail> {
+        let mut addresses = [5, 0];
+        let mut values = [50, 0];
+        let mut late_addresses = [7];
+        let mut late_values = [70];
+        let mut opening_addresses = [5, 7, 9];
+        let mut opening_values = [1, 2, 90];
+        let own = Cells {
+            addresses: &mut addresses,
+            values: &mut values,
+            count: 1,
+        };
+        let late = Cells {
+            addresses: &mut late_addresses,
+            values: &mut late_values,
+            count: 1,
+        };
+        let opening = Cells {
+            addresses: &mut opening_addresses,
+            values: &mut opening_values,
+            count: 3,
+        };
+        let table = Table { cells: own, late };
+        for (address, want) in [(5, 50), (7, 70), (9, 90), (11, 0)] {
+            assert_eq!(rt; table.word_at(&opening, address), want, "at {address}");
+        }
+        Ok(())
     }
 }

@@ -21,7 +21,7 @@ returns-then-f-ne0-clause-touches c =
 
 pub returns-in-Some-clause-touches : goal.returns-in-Some-clause-touches
 returns-in-Some-clause-touches c =
-    rw (c.in-Ram.is, c.in-Some.is) (ram-read _ _ _ _ _ _ _ _ _ refl c.ram_fields-f.ensures c.if-f-ne0.false c.word_at.result refl (sym c.has.ensures ∙ c.if-not-has.false) c.word_at.ensures)
+    rw (c.in-Ram.is, c.in-Some.is) (ram-read _ _ _ _ _ _ _ _ _ refl c.ram_fields-f.ensures c.if-f-ne0.false c.word_at_seen.result refl (sym c.has.ensures ∙ c.if-not-has.false) c.word_at_seen.ensures)
 
 pub returns-in-None-clause-touches : goal.returns-in-None-clause-touches
 returns-in-None-clause-touches c =

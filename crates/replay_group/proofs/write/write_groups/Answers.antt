@@ -11,8 +11,8 @@ pub loop-low-init : goal.loop-low-init
 loop-low-init c =
     record { below = omega arith; kept = kept_same _; kept_table = table_same _; writing = λ rs w. writing-none _ rs _ c.requires.0.sorted }
 
-pub group_from-group-requires : goal.group_from-group-requires
-group_from-group-requires c =
+pub group_from_seen-group-requires : goal.group_from_seen-group-requires
+group_from_seen-group-requires c =
     let r = c.requires in
     let k = c.loop-low.invariant.kept_table in
     (record { records = r.0.records; walk = r.0.walk; ends = r.0.ends }, c.loop-low-test.true, sorted_none _ _ refl, lent_again r.1 k.cells.room k.cells.pair k.late.room k.late.pair)
@@ -21,21 +21,21 @@ pub bring-requires : goal.bring-requires
 bring-requires c =
     let r = c.requires in
     let l = c.loop-low.invariant in
-    let d = c.group_from-group.ensures.gathers in
+    let d = c.group_from_seen-group.ensures.gathers in
     let k = c.look-written.ensures in
     rw (k.addresses, k.values, k.count) (writing-fits (l.writing r.0.records r.0.walk) d.above (gathered-all (d.gathered r.0.records r.0.walk)) r.0.room d.below)
 
 pub loop-low-smaller : goal.loop-low-smaller
 loop-low-smaller c =
-    let d = c.group_from-group.ensures.gathers in
+    let d = c.group_from_seen-group.ensures.gathers in
     omega (arith, d.above, d.below)
 
 pub loop-low-preserved : goal.loop-low-preserved
 loop-low-preserved c =
     let r = c.requires in
     let l = c.loop-low.invariant in
-    let d = c.group_from-group.ensures.gathers in
-    let k = table_on l.kept_table c.group_from-group.ensures.kept in
+    let d = c.group_from_seen-group.ensures.gathers in
+    let k = table_on l.kept_table c.group_from_seen-group.ensures.kept in
     let s = c.look-written.ensures in
     let b = rw (s.addresses, s.values, s.count) at c.bring.ensures.brings in
     record {

@@ -3,7 +3,7 @@ use native.Mathlib.Omega.{arith}
 use lib.ListN.{length-take}
 use lib.Seq.{get_or-take}
 use Rattle.replay_table.proofs.MergeLaws.{counted_none, counted-more}
-use Rattle.replay_table.proofs.cells.lacked.Goals as goal
+use Rattle.replay_table.proofs.cells.lacked_seen.Goals as goal
 
 pub loop-address-init : goal.loop-address-init
 loop-address-init c = counted_none _ _ _

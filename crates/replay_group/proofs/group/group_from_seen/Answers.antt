@@ -1,5 +1,5 @@
 use Rattle.replay_group.proofs.PassLaws.{gathers-settled}
-use Rattle.replay_group.proofs.group.group_from.Goals as goal
+use Rattle.replay_group.proofs.group.group_from_seen.Goals as goal
 
 pub settle-requires : goal.settle-requires
 settle-requires c =

@@ -8,7 +8,7 @@ use Rattle.replay_scan.specs.Walk.{Walk}
 use Rattle.machine_ram.specs.LentCells.{cells_of_mut}
 use Rattle.replay_table.specs.LentView.{KeptTable, seen_cells}
 use Rattle.replay_group.proofs.SweepLaws.{Grouping}
-use Rattle.replay_group.proofs.group.sweep_all.Given as goal
+use Rattle.replay_group.proofs.group.sweep_all_seen.Given as goal
 
 abbrev pub invariant-loop-low : goal.invariant-loop-low
 invariant-loop-low l =

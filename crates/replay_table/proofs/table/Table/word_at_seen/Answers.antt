@@ -1,4 +1,4 @@
-use Rattle.replay_table.proofs.table.Table.word_at.Goals as goal
+use Rattle.replay_table.proofs.table.Table.word_at_seen.Goals as goal
 
 pub word_at-requires : goal.word_at-requires
 word_at-requires c =
