@@ -6,7 +6,7 @@ ghost use Rattle.std.specs.Prelude.{◌≡◌, true, false, length, get_or, ltb,
 ghost use Rattle.choices.specs.Choice.{cond, above_of};
 ghost use Rattle.machine.specs.Refusal.{plainly, found_a};
 ghost use Rattle.machine.specs.FeeTable.{wide1, table1, rows64, earlier};
-ghost use Rattle.machine_fees.specs.FeeView.{table_of, fees_of, found_fee, carrying, FoundIn, Shaped, Priceable, OpcodesChecked, TableChecked, HandsOn, FeesBehind};
+ghost use Rattle.machine_fees.specs.FeeView.{table_of, fees_of, found_fee, carrying, FoundIn, Shaped, Priceable, OpcodesChecked, TableChecked, FeesChecked, HandsOn, FeesBehind};
 
 use machine::refusal::{FeeError, InstructionError, PlaceA};
 use machine_isa::instruction::is_known;
@@ -167,7 +167,7 @@ fn hand_on<E: Into<InstructionError>>(handed: Result<(), E>) -> Result<(), Instr
 }
 
 // What a call finds wrong, where `handed` is what it found before; with a good table the prices of the opcodes are in prices.
-pub fn check_fees<E: Into<InstructionError> + Drop>(
+pub fn check_fees_behind<E: Into<InstructionError> + Drop>(
     fees: Option<LentFees<'_>>,
     handed: Result<(), E>,
     prices: &mut [u64],
@@ -184,4 +184,48 @@ pub fn check_fees<E: Into<InstructionError> + Drop>(
         }
     }
     Ok(())
+}
+
+// The same behind place A.
+pub fn check_fees(
+    fees: Option<LentFees<'_>>,
+    handed: Result<(), PlaceA>,
+    prices: &mut [u64],
+) -> Result<(), InstructionError>
+    requires { IsSome fees → Priceable prices.old }
+    ensures { FeesChecked (fees_of fees.entry) (found_a handed) result prices.new }
+{
+    check_fees_behind(fees, handed, prices)
+}
+
+#[cfg(test)]
+mod tests {
+    use super::*;
+    use std::test::Fail;
+
+    // Without a table it is what place A found. `Ok(())` needs no word on the error's type.
+    #[test]
+    fn hands_on_what_place_a_found(rt: HostRuntime) -> Result<(), Fail> {
+        let mut prices = [0u64; 128];
+        assert_eq!(rt; check_fees(None, Ok(()), &mut prices), Ok(()));
+        let found = check_fees(None, Err(PlaceA::BadShape), &mut prices);
+        assert_eq!(rt; found, Err(InstructionError::Handed(PlaceA::BadShape)));
+        Ok(())
+    }
+
+    // One row for all opcodes, of which halt is 0 and nop 8: each costs its fee.
+    #[tactic(auto, using(crate::proofs::FeeLaws::zeros_priceable))]
+    #[test]
+    fn prices_the_opcodes(rt: HostRuntime) -> Result<(), Fail> {
+        let table = LentFees {
+            lowest: &[0],
+            highest: &[127],
+            fees: &[3],
+        };
+        let mut prices = [0u64; 128];
+        assert_eq!(rt; check_fees(Some(table), Ok(()), &mut prices), Ok(()));
+        assert_eq!(rt; prices[0], 3);
+        assert_eq!(rt; prices[8], 3);
+        Ok(())
+    }
 }

@@ -8,7 +8,7 @@ ghost use Rattle.machine_open.specs.OpenView.{registers_of, Opens};
 use machine::lent::{LentCode, OpeningMemory};
 use machine::refusal::InstructionError;
 use machine::state::VMState;
-use machine_fees::fee_table::{LentFees, check_fees};
+use machine_fees::fee_table::{LentFees, check_fees_behind};
 use machine_isa::few::Few;
 use machine_isa::op_stack::apply;
 use machine_place_a::checks::check_open;
@@ -64,7 +64,7 @@ fn checked(
     ensures lent { KeepsOpening memory.old memory.new }
 {
     let handed = check_open(revision, digest, code, &memory.look(), cells);
-    check_fees(fees, handed, prices)?;
+    check_fees_behind(fees, handed, prices)?;
     open_stack(memory.op_stack, digest);
     memory.origins.fill(0);
     memory.destinations.fill(0);

@@ -11,7 +11,7 @@ ghost use Rattle.machine_vm.specs.RunView.{Unasked, Lendable, Calls};
 use machine::lent::{LentCode, LentMemory, SeenMemory};
 use machine::refusal::PlaceA;
 use machine::state::VMState;
-use machine_fees::fee_table::{LentFees, check_fees};
+use machine_fees::fee_table::{LentFees, check_fees_behind};
 use machine_place_a::checks::{check_length, check_machine};
 use machine_steps::answer::{Ending, Ran};
 use machine_steps::steps::steps;
@@ -50,7 +50,7 @@ fn checked(
     ensures lent { Keeps memory.old memory.new }
 {
     let handed = check_lent(table.len(), b.len(), &state, code, &memory.look());
-    match check_fees(fees, handed, prices) {
+    match check_fees_behind(fees, handed, prices) {
         Ok(()) => steps(
             recording,
             tabling,

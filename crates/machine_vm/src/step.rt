@@ -11,7 +11,7 @@ ghost use Rattle.machine_vm.specs.StepView.{Steps, NamesRow, StepsPriced};
 use machine::lent::{LentCode, LentMemory, SeenMemory};
 use machine::refusal::{InstructionError, PlaceA};
 use machine::state::VMState;
-use machine_fees::fee_table::{LentFees, check_fees};
+use machine_fees::fee_table::{LentFees, check_fees_behind};
 use machine_perform::answer::Stepped;
 use machine_place_a::checks::{check_buffer, check_machine};
 use machine_step::advance::advance;
@@ -44,7 +44,7 @@ fn checked(
     ensures lent { Keeps memory.old memory.new }
 {
     let handed = check_step(b, &state, code, &memory.look());
-    match check_fees(fees, handed, prices) {
+    match check_fees_behind(fees, handed, prices) {
         Ok(()) => advance(true, &state, code, memory, b),
         Err(error) => Stepped {
             answer: Err(error),
