@@ -124,3 +124,18 @@ module _ {m : Machine} (h : Walking m) (is : 0 ≡ place_b m.state m.code.opcode
     quick_done (Some q) w g =
         record { rest = refl; steps = λ digests output sound. shifts (plain_alike m digests output) e q w sound h.on (quick_decides digests output sound) g }
     quick_done None w g = ap (with_stack m.memory) g
+
+-- ---- memory slice by slice: it shows no output
+
+abbrev bare : Machine → Machine
+bare m = machine m.state m.code (memory m.memory.op_stack m.memory.origins m.memory.destinations m.memory.addresses m.memory.values [])
+
+pub walks_bare : {m : Machine} → Walking m → Walking (bare m)
+walks_bare h = record { digests = h.digests; output = h.output; sound = h.sound; on = h.on }
+
+abbrev with_output : Memory → List ℕ → Memory
+with_output n x = memory n.op_stack n.origins n.destinations n.addresses n.values x
+
+pub quick_lent : (m : Machine) (r : Option QuickStep) (n : Memory) → Quicked (bare m) r n → Quicked m r (with_output n m.memory.output)
+quick_lent m (Some r) n k = record { rest = ap (λ (y : Memory). with_output y m.memory.output) k.rest; steps = k.steps }
+quick_lent m None n k = ap (λ (y : Memory). with_output y m.memory.output) k

@@ -1,12 +1,12 @@
 // A quick step: one that changes the op stack, the pointer and the clock alone, as most steps of a run do. Its effect is not handed on, so
 // nothing but what it needs is made of it.
-ghost use Rattle.std.specs.Prelude.{◌≡◌};
-ghost use Rattle.machine.specs.Machine.{machine};
-ghost use Rattle.machine.specs.Lent.{code_of, seen};
+ghost use Rattle.std.specs.Prelude.{◌≡◌, []};
+ghost use Rattle.machine.specs.Machine.{memory, machine};
+ghost use Rattle.machine.specs.Lent.{code_of, memory_of, seen, Keeps};
 ghost use Rattle.machine_decide.specs.DecideView.{Reliable};
 ghost use Rattle.machine_quick.specs.QuickView.{ActedQuick, Quiet, Changing, Changed, lent_beside, Walking, Quicked};
 
-use machine::lent::{LentCode, SeenMemory};
+use machine::lent::{LentCode, LentMemory, SeenMemory};
 use machine::refusal::{InstructionError, PlaceA};
 use machine::state::VMState;
 use machine_arithmetic::arithmetic;
@@ -112,7 +112,7 @@ fn change(state: &VMState, e: &Effect, opcode: u64, op_stack: &mut [u64]) -> Opt
 }
 
 // A quick step of a sound machine that is not halted, where there is one.
-pub fn quick(
+pub fn quick_beside(
     state: &VMState,
     code: &LentCode<'_>,
     op_stack: &mut [u64],
@@ -128,5 +128,123 @@ pub fn quick(
     match act(&hand_over(state, code, &beside.look(op_stack))) {
         Ok(effect) => change(state, &effect, opcode, op_stack),
         Err(_) => None,
+    }
+}
+
+// The same of memory slice by slice, each lent to change: of a struct whose slices may change, the borrow checker lends no slice to be looked at beside one
+// that is lent to change.
+fn quick_of(
+    state: &VMState,
+    code: &LentCode<'_>,
+    op_stack: &mut [u64],
+    origins: &mut [u64],
+    destinations: &mut [u64],
+    addresses: &mut [u64],
+    values: &mut [u64],
+) -> Option<QuickStep>
+    requires { Walking (machine state.now (code_of code.now) (memory op_stack.old origins.old destinations.old addresses.old values.old [])) }
+    ensures { Quicked (machine state.now (code_of code.now) (memory op_stack.old origins.old destinations.old addresses.old values.old [])) result (memory op_stack.new origins.new destinations.new addresses.new values.new []) }
+{
+    let beside = Beside {
+        origins: &*origins,
+        destinations: &*destinations,
+        addresses: &*addresses,
+        values: &*values,
+    };
+    quick_beside(state, code, op_stack, &beside)
+}
+
+// The same of memory as it is lent.
+pub fn quick(state: &VMState, code: &LentCode<'_>, memory: &mut LentMemory<'_>) -> Option<QuickStep>
+    requires { Walking (machine state.now (code_of code.now) (memory_of memory.old)) }
+    ensures quicked { Quicked (machine state.now (code_of code.now) (memory_of memory.old)) result (memory_of memory.new) }
+    ensures lent { Keeps memory.old memory.new }
+{
+    quick_of(
+        state,
+        code,
+        memory.op_stack,
+        memory.origins,
+        memory.destinations,
+        memory.addresses,
+        memory.values,
+    )
+}
+
+#[cfg(test)]
+mod tests {
+    use super::*;
+    use std::test::Fail;
+    use tip5::sponge::Sponge;
+
+    // Slot 0 is next, and the op stack has its sixteen words.
+    const OPENED: VMState = VMState {
+        clock: 0,
+        pointer: 0,
+        depth: 16,
+        jumps: 0,
+        cells: 0,
+        outputs: 0,
+        publics: 0,
+        secrets: 0,
+        digests: 0,
+        sponge: Sponge {
+            words: [0; 16],
+            set: false,
+        },
+        halted: false,
+        revision: 1,
+    };
+
+    // push 7 takes two slots and puts 7 on.
+    #[test]
+    fn takes_a_push(rt: HostRuntime) -> Result<(), Fail> {
+        let code = LentCode {
+            opcodes: &[1, 1],
+            arguments: &[7, 7],
+            public: &[],
+            secret: &[],
+            digests: &[],
+        };
+        let mut op_stack = [0u64; 17];
+        let mut memory = LentMemory {
+            op_stack: &mut op_stack,
+            origins: &mut [],
+            destinations: &mut [],
+            addresses: &mut [],
+            values: &mut [],
+            output: &mut [],
+        };
+        let pushed = QuickStep {
+            pointer: 2,
+            depth: 17,
+        };
+        assert_eq!(rt; quick(&OPENED, &code, &mut memory), Some(pushed));
+        assert_eq!(rt; op_stack[15], 0);
+        assert_eq!(rt; op_stack[16], 7);
+        Ok(())
+    }
+
+    // halt is no quick step.
+    #[test]
+    fn leaves_a_halt(rt: HostRuntime) -> Result<(), Fail> {
+        let code = LentCode {
+            opcodes: &[0],
+            arguments: &[0],
+            public: &[],
+            secret: &[],
+            digests: &[],
+        };
+        let mut op_stack = [0u64; 16];
+        let mut memory = LentMemory {
+            op_stack: &mut op_stack,
+            origins: &mut [],
+            destinations: &mut [],
+            addresses: &mut [],
+            values: &mut [],
+            output: &mut [],
+        };
+        assert_eq!(rt; quick(&OPENED, &code, &mut memory), None);
+        Ok(())
     }
 }

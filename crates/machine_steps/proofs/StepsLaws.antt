@@ -39,6 +39,7 @@ use Rattle.machine_log.proofs.Logged.{logged_none, logged-front, logged-logged, 
 use Rattle.machine_perform.specs.declared.answer.Stepped.{Stepped}
 use Rattle.machine_perform.specs.AnswerView.{did, turned, answer_in, Gives}
 use Rattle.machine_quick.specs.declared.quick.QuickStep.{QuickStep}
+use Rattle.machine_quick.proofs.QuickLaws as Q
 use Rattle.machine_quick.specs.QuickView.{onward_to, StepsTo, with_stack, Walking, Taken, Quicked}
 use Rattle.machine_rows.specs.RowView.{RowTaken, RowPut}
 use Rattle.machine_step.specs.AdvanceView.{advanced_by, Advanced}
@@ -150,14 +151,13 @@ abbrev bare : Machine → Machine
 bare m = machine m.state m.code (memory m.memory.op_stack m.memory.origins m.memory.destinations m.memory.addresses m.memory.values [])
 
 pub walks_bare : {m : Machine} → Walking m → Walking (bare m)
-walks_bare h = record { digests = h.digests; output = h.output; sound = h.sound; on = h.on }
+walks_bare = Q.walks_bare
 
 abbrev with_output : Memory → List ℕ → Memory
 with_output n x = memory n.op_stack n.origins n.destinations n.addresses n.values x
 
 pub quick_lent : (m : Machine) (r : Option QuickStep) (n : Memory) → Quicked (bare m) r n → Quicked m r (with_output n m.memory.output)
-quick_lent m (Some r) n k = record { rest = ap (λ (y : Memory). with_output y m.memory.output) k.rest; steps = k.steps }
-quick_lent m None n k = ap (λ (y : Memory). with_output y m.memory.output) k
+quick_lent = Q.quick_lent
 
 -- ---- one step behind place `at` of the log
 
@@ -515,9 +515,14 @@ module _ {t u : Bool} {price : ℕ → ℕ} {budget : ℕ} {b0 w0 : List ℕ} {m
       pub steps-sound : Sound (machine x m.code n)
       steps-sound = step-sound decide_of facts m _ s.sound went_on.0
 
+      -- a row of the machine's own words is enough
+      pub steps_go_asked : {w2 row : List ℕ} {next_row next-fee : ℕ} → (u ≡ true → row ≡ row_of m) → RowPut u w filled row w2 next_row → next-fee ≡ fee + price (opcode_of m) →
+          Going t u price budget b0 w0 m0 (machine x m.code n) (k + 1) next-at next_row next-fee b2 w2
+      steps_go_asked asked put pay = steps_go_on went_on.0 y.place went_on.1 asked put pay
+
       pub steps_go : {w2 row : List ℕ} {next_row next-fee : ℕ} → RowTaken u m row → RowPut u w filled row w2 next_row → next-fee ≡ fee + price (opcode_of m) →
           Going t u price budget b0 w0 m0 (machine x m.code n) (k + 1) next-at next_row next-fee b2 w2
-      steps_go taken put pay = steps_go_on went_on.0 y.place went_on.1 taken.asked put pay
+      steps_go taken put pay = steps_go_asked taken.asked put pay
 
       pub steps-priced : Priced m
       steps-priced = took-priced m _ s.sound went_on.0

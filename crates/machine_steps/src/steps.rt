@@ -16,7 +16,7 @@ use machine::lent::{LentCode, LentMemory};
 use machine::refusal::InstructionError;
 use machine::state::VMState;
 use machine_isa::instruction::most_bytes;
-use machine_quick::quick::{Beside, QuickStep, quick};
+use machine_quick::quick::{Beside, QuickStep, quick_beside};
 use machine_rows::processor_row::{next_row, take_row};
 use machine_step::advance::advance;
 use machine_step::records::moved;
@@ -101,7 +101,7 @@ fn quick_in(
         addresses: &*addresses,
         values: &*values,
     };
-    quick(now, code, op_stack, &beside)
+    quick_beside(now, code, op_stack, &beside)
 }
 
 // The same of memory as it is lent.
