@@ -331,7 +331,7 @@ rams_are v t d [] = refl
 rams_are v t Read (x ∷ s) = ap (λ (r : List Record). ram t x.address x.value 0 ∷ r) (rams_are v t Read s)
 rams_are v t Write (x ∷ s) = ap (λ (r : List Record). ram t x.address x.value 1 ∷ r) (rams_are v t Write s)
 
-row_is : (v t : ℕ) (d : Direction) (s : List Access) (n : ℕ) → ram_records t d s n ≡ call_records v t (first_accesses d s n)
+pub row_is : (v t : ℕ) (d : Direction) (s : List Access) (n : ℕ) → ram_records t d s n ≡ call_records v t (first_accesses d s n)
 unfolding ram_records first_accesses
 row_is v t d s n = rams_are v t d (take n s)
 
